@@ -1,0 +1,9 @@
+-- The laws of tests, searches, weights and sums, and of the loops that search and add.
+pub mod Bools
+pub mod Branch
+pub mod Search
+pub mod Scan
+pub mod Pairs
+pub mod Weigh
+pub mod Sums
+pub mod Fold

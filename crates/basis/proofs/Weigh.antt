@@ -1,0 +1,96 @@
+-- Weights, and distinct keys. Assumes nothing.
+use Prim.Native.Nat.{ℕ, _+_, _≤_, _<_, zero-le}
+use mathlib.Core.Path.{_≡_, refl, sym}
+use mathlib.Core.Bool.{Bool, true, false}
+use mathlib.Core.List.{List, [], _∷_, _++_}
+use native.Mathlib.Decide.{ℕ-discrete}
+use native.Mathlib.Omega.{arith}
+use lib.Dec.{eqb}
+use lib.ListN.{length}
+use borrow.Author.Tests.{eqb-true, eq-eqb, ne-eqb}
+use Rattle.basis.specs.Choice.{pick, bit}
+use Rattle.basis.specs.Count.{weigh, tally, distinct, All}
+use Rattle.basis.proofs.Bools.{and-left, and-right, and-both, bit-eq, bit-ne, all-map, all-and}
+
+-- ---- weights
+
+-- the weight of two lists joined
+pub weigh-append : {A : Type 0} (w : A → ℕ) (xs ys : List A) → weigh w (xs ++ ys) ≡ weigh w xs + weigh w ys
+weigh-append w [] ys = omega arith
+weigh-append w (x ∷ xs) ys = omega (arith, weigh-append w xs ys)
+
+-- where each element weighs nothing, the list does
+pub none-weigh : {A : Type 0} (w : A → ℕ) (xs : List A) → All (λ x. w x ≡ 0) xs → weigh w xs ≡ 0
+none-weigh w [] h = refl
+none-weigh w (x ∷ xs) h = omega (arith, none-weigh w xs (h .1))
+
+-- where each weighs 1, it weighs its length
+pub ones-weigh : {A : Type 0} (w : A → ℕ) (xs : List A) → All (λ x. w x ≡ 1) xs → weigh w xs ≡ length xs
+ones-weigh w [] h = refl
+ones-weigh w (x ∷ xs) h = omega (arith, ones-weigh w xs (h .1))
+
+-- where the list weighs nothing, each element does
+pub weigh-zero : {A : Type 0} (w : A → ℕ) (xs : List A) → weigh w xs ≡ 0 → All (λ x. w x ≡ 0) xs
+weigh-zero w [] h = tt
+weigh-zero w (x ∷ xs) h = (omega arith, weigh-zero w xs (omega arith))
+
+-- a test counts at most 1
+pub bit-most : (b : Bool) → bit b ≤ 1
+bit-most true = omega arith
+bit-most false = omega arith
+
+-- ---- distinct keys
+
+-- each element is counted under its key
+pub counted : {A : Type 0} (key : A → ℕ) (xs : List A) → All (λ x. 0 < tally key (key x) xs) xs
+counted key [] = tt
+counted key (x ∷ xs) = (
+  omega (arith, bit-eq (key x) (key x) refl),
+  all-map (λ y. 0 < tally key (key y) xs) (λ y. 0 < tally key (key y) (x ∷ xs)) (λ y h. omega arith) xs (counted key xs),
+)
+
+-- where keys are distinct, each is counted at most once
+pub distinct-most : {A : Type 0} (key : A → ℕ) (xs : List A) → distinct key xs ≡ true → (k : ℕ) → tally key k xs ≤ 1
+distinct-most key [] h k = zero-le
+distinct-most key (x ∷ xs) h k = go (ℕ-discrete (key x) k) (distinct-most key xs (and-right (eqb (tally key (key x) xs) 0) _ h) k)
+  where
+    none : tally key (key x) xs ≡ 0
+    none = eqb-true _ _ (and-left _ _ h)
+
+    go : Dec (key x ≡ k) → tally key k xs ≤ 1 → tally key k (x ∷ xs) ≤ 1
+    go (yes e) rest = omega (arith, bit-eq (key x) k e, rw e at none)
+    go (no n) rest = omega (arith, bit-ne (key x) k n)
+
+-- and back
+pub most-distinct : {A : Type 0} (key : A → ℕ) (xs : List A) → ((k : ℕ) → tally key k xs ≤ 1) → distinct key xs ≡ true
+most-distinct key [] h = refl
+most-distinct key (x ∷ xs) h =
+    and-both _ _ (eq-eqb (tally key (key x) xs) 0 (omega (arith, h (key x), bit-eq (key x) (key x) refl))) (most-distinct key xs (λ k. omega (arith, h k)))
+
+-- ---- the elements of one key
+
+-- the weight of an element whose key is k, and nothing for the others
+abbrev pub keyed : {A : Type 0} → (A → ℕ) → ℕ → (A → ℕ) → A → ℕ
+keyed key k w x = pick (eqb (key x) k) (w x) 0
+
+-- which is nothing where none has that key
+pub keyed-none : {A : Type 0} (key : A → ℕ) (k : ℕ) (w : A → ℕ) (xs : List A) → tally key k xs ≡ 0 → weigh (keyed key k w) xs ≡ 0
+keyed-none key k w xs h = none-weigh (keyed key k w) xs (all-map _ _ (λ x z. go (eqb (key x) k) (w x) z) xs (weigh-zero _ xs h))
+  where
+    go : (o : Bool) (v : ℕ) → bit o ≡ 0 → pick o v 0 ≡ 0
+    go true v z = absurd (omega arith)
+    go false v z = refl
+
+-- where no two have one key, the elements of an element's key are itself
+pub keyed-each : {A : Type 0} (key : A → ℕ) (w : A → ℕ) (xs : List A) → distinct key xs ≡ true → All (λ x. weigh (keyed key (key x) w) xs ≡ w x) xs
+keyed-each key w [] h = tt
+keyed-each key w (x ∷ xs) h = (
+  rw (eq-eqb (key x) (key x) refl) (omega (arith, keyed-none key (key x) w xs none)),
+  all-map _ _ other xs (all-and _ _ xs (weigh-zero _ xs none) (keyed-each key w xs (and-right (eqb (tally key (key x) xs) 0) _ h))),
+)
+  where
+    none : tally key (key x) xs ≡ 0
+    none = eqb-true _ _ (and-left _ _ h)
+
+    other : (y : _) → (bit (eqb (key y) (key x)) ≡ 0) × (weigh (keyed key (key y) w) xs ≡ w y) → weigh (keyed key (key y) w) (x ∷ xs) ≡ w y
+    other y e = rw (ne-eqb (key x) (key y) (λ s. absurd (omega (arith, bit-eq (key y) (key x) (sym s))))) (omega (arith, e .1))
