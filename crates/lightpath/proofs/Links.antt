@@ -1,0 +1,107 @@
+-- Lemma 1: two adjacent circuits whose hops total at most N clockwise, or at least N counterclockwise, use no link together in that
+-- direction. Assumes nothing.
+use Prim.Native.Nat.{ℕ, _+_, _-_, _≤_, _<_}
+use mathlib.Core.Path.{_≡_, _∙_}
+use mathlib.Core.Logic.{_⊎_, inl, inr}
+use mathlib.Core.Bool.{true, not}
+use native.Mathlib.Nat.{add-comm, mod-lt, mod-eq-of-lt, add-mod-right}
+use native.Mathlib.Decide.{decLe}
+use native.Mathlib.Omega.{arith}
+use lib.Dec.{eqb, ltb}
+use borrow.Author.Tests.{eqb-true, eqb-false, leb-true, ltb-true, ltb-false, not-true}
+use Rattle.basis.proofs.Bools.{and-left, and-right, or-true}
+use Rattle.lightpath.specs.Place.{Direction, clockwise, counterclockwise}
+use Rattle.lightpath.specs.Circuit.{Circuit, joins, ahead, hops, uses, adjacent}
+
+-- source and destination are on the ring and different
+pub record OnRing (N : ℕ) (c : Circuit) : Type 0 where
+  pub sourceLow : 1 ≤ c .source
+  pub sourceHigh : c .source ≤ N
+  pub destLow : 1 ≤ c .destination
+  pub destHigh : c .destination ≤ N
+  pub apart : c .source ≡ c .destination → ⊥
+
+-- the computed test says so
+pub on-ring : (N : ℕ) (c : Circuit) → joins N c ≡ true → OnRing N c
+on-ring N c h = record {
+  sourceLow = leb-true _ _ (search (and-left, and-right));
+  sourceHigh = leb-true _ _ (search (and-left, and-right));
+  destLow = leb-true _ _ (search (and-left, and-right));
+  destHigh = leb-true _ _ (search (and-left, and-right));
+  apart = eqb-false _ _ (not-true _ (search (and-left, and-right)));
+}
+
+-- ---- the links from one node to another
+
+-- it is less than once round the ring
+pub ahead-lt : (N s x : ℕ) → 1 ≤ N → ahead N s x < N
+unfolding ahead
+ahead-lt N s x h = mod-lt (x + N - s) h
+
+-- x − s where x comes after s, and otherwise N more
+abbrev Ahead : ℕ → ℕ → ℕ → Type 0
+Ahead N s x = ((s ≤ x) × (ahead N s x ≡ x - s)) ⊎ ((x < s) × (ahead N s x ≡ x + N - s))
+
+-- which is what (x − s) modulo N comes to
+ahead-cases : (N s x : ℕ) → 1 ≤ s → s ≤ N → 1 ≤ x → x ≤ N → Ahead N s x
+unfolding ahead
+ahead-cases N s x sl sh xl xh = go (decLe s x)
+  where
+    go : Dec (s ≤ x) → Ahead N s x
+    go (yes h) = let e : x + N - s ≡ (x - s) + N = omega arith in inl (h, rw e (add-mod-right (x - s) N ∙ mod-eq-of-lt (omega arith)))
+    go (no h) = inr (omega arith, mod-eq-of-lt (omega arith))
+
+-- from s over m to l it is as far as from s to l, or once more round the ring
+abbrev Chain : ℕ → ℕ → ℕ → ℕ → Type 0
+Chain N s m l = (ahead N s m + ahead N m l ≡ ahead N s l) ⊎ (ahead N s m + ahead N m l ≡ ahead N s l + N)
+
+-- it holds in each case of the three distances
+module _ (N s m l : ℕ) (sh : s ≤ N) (mh : m ≤ N) (lh : l ≤ N) where
+  chain : Ahead N s m → Ahead N m l → Ahead N s l → Chain N s m l
+  chain (inl a) (inl b) (inl c) = inl (omega arith)
+  chain (inl a) (inl b) (inr c) = inl (omega arith)
+  chain (inl a) (inr b) (inl c) = inr (omega arith)
+  chain (inl a) (inr b) (inr c) = inl (omega arith)
+  chain (inr a) (inl b) (inl c) = inr (omega arith)
+  chain (inr a) (inl b) (inr c) = inl (omega arith)
+  chain (inr a) (inr b) (inl c) = inr (omega arith)
+  chain (inr a) (inr b) (inr c) = inr (omega arith)
+
+-- ---- Lemma 1
+
+-- the total of the hops of two circuits suits a direction
+abbrev pub Suits : ℕ → Direction → ℕ → Type 0
+Suits N clockwise total = total ≤ N
+Suits N counterclockwise total = N ≤ total
+
+-- a test that fails
+not-ltb : (a b : ℕ) → not (ltb a b) ≡ true → b ≤ a
+not-ltb a b e = ltb-false a b (not-true (ltb a b) e)
+
+-- where the first ends at the source of the second
+clash : (N : ℕ) (a b : Circuit) (l : ℕ) → OnRing N a → OnRing N b → a .destination ≡ b .source → 1 ≤ l → l ≤ N → (d : Direction)
+    → Suits N d (hops N a + hops N b) → uses N d a l ≡ true → uses N d b l ≡ true → ⊥
+clash N a b l oa ob e ll lh d k ua ub =
+    go d k ua ub
+    (chain N (a .source) (b .source) l (oa .sourceHigh) (ob .sourceHigh) lh
+    (ahead-cases N (a .source) (b .source) (oa .sourceLow) (oa .sourceHigh) (ob .sourceLow) (ob .sourceHigh))
+    (ahead-cases N (b .source) l (ob .sourceLow) (ob .sourceHigh) ll lh)
+    (ahead-cases N (a .source) l (oa .sourceLow) (oa .sourceHigh) ll lh))
+  where
+    ha : hops N a ≡ ahead N (a .source) (b .source)
+    ha = rw e
+
+    go : (d : Direction) → Suits N d (hops N a + hops N b) → uses N d a l ≡ true → uses N d b l ≡ true → Chain N (a .source) (b .source) l → ⊥
+    go clockwise k ua ub (inl c) = omega (arith, ha, ltb-true)
+    go clockwise k ua ub (inr c) = omega (arith, ha, ltb-true)
+    go counterclockwise k ua ub (inl c) = omega (arith, ha, not-ltb, ahead-lt N (a .source) l (omega arith))
+    go counterclockwise k ua ub (inr c) = omega (arith, ha, not-ltb, ahead-lt N (b .source) l (omega arith))
+
+-- whichever of the two begins where the other ends
+pub lemma1 : (N : ℕ) (a b : Circuit) (l : ℕ) → OnRing N a → OnRing N b → adjacent a b ≡ true → 1 ≤ l → l ≤ N → (d : Direction)
+    → Suits N d (hops N a + hops N b) → uses N d a l ≡ true → uses N d b l ≡ true → ⊥
+lemma1 N a b l oa ob adj ll lh d k ua ub = go (or-true (eqb (a .destination) (b .source)) (eqb (b .destination) (a .source)) adj)
+  where
+    go : (eqb (a .destination) (b .source) ≡ true) ⊎ (eqb (b .destination) (a .source) ≡ true) → ⊥
+    go (inl e) = clash N a b l oa ob (eqb-true (a .destination) (b .source) e) ll lh d k ua ub
+    go (inr e) = clash N b a l ob oa (eqb-true (b .destination) (a .source) e) ll lh d (rw (add-comm (hops N b) (hops N a)) k) ub ua

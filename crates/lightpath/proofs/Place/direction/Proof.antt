@@ -1,0 +1,14 @@
+-- `lightpath::Place::direction` meets its contract. Assumes nothing.
+use borrow.Author.Needs.{needs}
+use Rattle.basis.proofs.Branch.{branch}
+use Rattle.lightpath.proofs.Place.direction.Statement.{statement}
+use Rattle.lightpath.proofs.Place.direction.Tie as tie
+
+returns : tie.Need-returns
+returns c = search (needs, branch)
+
+returns-2 : tie.Need-returns-2
+returns-2 c = search (needs, branch)
+
+pub direction-spec : {M : Type 1} → statement M
+direction-spec = tie.close (tie.spec returns returns-2)

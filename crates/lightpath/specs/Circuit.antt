@@ -1,0 +1,45 @@
+-- 01, "The ring": circuits on a ring of N nodes, their hops and links, and which two can share. Assumes nothing.
+use Prim.Native.Nat.{ℕ, _+_, _-_, _%_}
+use mathlib.Core.Bool.{Bool, _&&_, _||_, not}
+use lib.Dec.{eqb, leb, ltb}
+use Rattle.basis.specs.Choice.{pick}
+use Rattle.lightpath.specs.Place.{Direction, clockwise, counterclockwise}
+pub use Rattle.lightpath.specs.declared.Circuit.{Circuit}
+
+-- all fields zero
+abbrev pub blankCircuit : Circuit
+blankCircuit = record { number = 0; source = 0; destination = 0; remark = 0 }
+
+-- a node is on the ring when it is 1 to N
+abbrev pub onRing : ℕ → ℕ → Bool
+onRing N i = leb 1 i && leb i N
+
+-- source and destination are on the ring and different
+abbrev pub joins : ℕ → Circuit → Bool
+joins N c = onRing N (c .source) && onRing N (c .destination) && not (eqb (c .source) (c .destination))
+
+-- the number of links clockwise from node s to node x: (x − s) modulo N
+unfoldable pub ahead : ℕ → ℕ → ℕ → ℕ
+ahead N s x = (x + N - s) % N
+
+-- its hops are (destination − source) modulo N
+abbrev pub hops : ℕ → Circuit → ℕ
+hops N c = ahead N (c .source) (c .destination)
+
+-- clockwise it uses that many links from its source on; counterclockwise it uses the others
+abbrev pub uses : ℕ → Direction → Circuit → ℕ → Bool
+uses N clockwise c l = ltb (ahead N (c .source) l) (hops N c)
+uses N counterclockwise c l = not (ltb (ahead N (c .source) l) (hops N c))
+
+-- two circuits are adjacent when the destination of one is the source of the other
+abbrev pub adjacent : Circuit → Circuit → Bool
+adjacent a b = eqb (a .destination) (b .source) || eqb (b .destination) (a .source)
+
+-- an adjacent pair can share clockwise when their hops total at most N, otherwise counterclockwise
+abbrev pub canShare : ℕ → Direction → Circuit → Circuit → Bool
+canShare N clockwise a b = adjacent a b && leb (hops N a + hops N b) N
+canShare N counterclockwise a b = adjacent a b && ltb N (hops N a + hops N b)
+
+-- the direction in which an adjacent pair can share
+abbrev pub shareDirection : ℕ → Circuit → Circuit → Direction
+shareDirection N a b = pick (canShare N clockwise a b) clockwise counterclockwise

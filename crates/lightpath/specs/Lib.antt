@@ -1,0 +1,3 @@
+-- The definitions of the geometry: places, then circuits.
+pub mod Place
+pub mod Circuit
