@@ -1,0 +1,109 @@
+-- The table place by place: its weight is the sum of its places' weights, and a change of one place changes only that. Assumes nothing.
+use Prim.Native.Nat.{ℕ, zero, suc, _+_, _≤_, _<_, zero-le, suc-le-suc}
+use mathlib.Core.Path.{_≡_, refl, ap}
+use mathlib.Core.Logic.{_≢_}
+use mathlib.Core.List.{List, [], _∷_}
+use native.Mathlib.Nat.{le-of-suc-le-suc, not-suc-le-zero}
+use native.Mathlib.Omega.{arith}
+use lib.ListN.{length, getD, set, length-set, List·getD-eq-default}
+use lib.Seq.{getD-set-same, getD-set-other}
+use Rattle.basis.specs.Count.{weigh}
+use Rattle.basis.proofs.Weigh.{weigh-append}
+use Rattle.lightpath.specs.declared.Circuit.{Circuit}
+use Rattle.channels.specs.Slot.{Slot, unlit, held}
+use Rattle.channels.specs.Channels.{Channels, unlitChannel, at, slots, allHeld, circuits}
+use Rattle.channels.specs.Change.{Change, put}
+
+-- ---- contents as a list
+
+-- there are as many contents as places
+pub slots-length : (t : Channels) → length (slots t) ≡ length t
+slots-length [] = refl
+slots-length (ch ∷ t) = ap suc (slots-length t)
+
+-- each stands where its place does
+pub slots-at : (t : Channels) (p : ℕ) → getD (slots t) p unlit ≡ at t p
+slots-at [] p = refl
+slots-at (ch ∷ t) zero = refl
+slots-at (ch ∷ t) (suc p) = slots-at t p
+
+-- a store of a place is a store of its content
+slots-set : (t : Channels) (p : ℕ) (s : Slot) → slots (set t p (record { slot = s })) ≡ set (slots t) p s
+slots-set [] p s = refl
+slots-set (ch ∷ t) zero s = refl
+slots-set (ch ∷ t) (suc p) s = rw (slots-set t p s)
+
+-- a place that there is not is unlit
+pub none-there : (t : Channels) (p : ℕ) → length t ≤ p → at t p ≡ unlit
+none-there t p l = ap (λ ch. ch .slot) (List·getD-eq-default t unlitChannel l)
+
+-- ---- weights of contents
+
+-- the first content's circuits and the others'
+weigh-cons : (w : Circuit → ℕ) (s : Slot) (u : List Slot) → weigh w (allHeld (s ∷ u)) ≡ weigh w (held s) + weigh w (allHeld u)
+weigh-cons w s u = weigh-append w (held s) (allHeld u)
+
+-- a weight of circuits is one of contents
+pub weigh-slots : (w : Circuit → ℕ) (u : List Slot) → weigh w (allHeld u) ≡ weigh (λ s. weigh w (held s)) u
+weigh-slots w [] = refl
+weigh-slots w (s ∷ u) = omega (arith, weigh-cons w s u, weigh-slots w u)
+
+-- one content weighs no more than all
+weigh-one : (w : Circuit → ℕ) (u : List Slot) (p : ℕ) → weigh w (held (getD u p unlit)) ≤ weigh w (allHeld u)
+weigh-one w [] p = zero-le
+weigh-one w (s ∷ u) zero = omega (arith, weigh-cons w s u)
+weigh-one w (s ∷ u) (suc p) = omega (arith, weigh-cons w s u, weigh-one w u p)
+
+-- nor do two
+weigh-two : (w : Circuit → ℕ) (u : List Slot) (p q : ℕ) → q < p → weigh w (held (getD u q unlit)) + weigh w (held (getD u p unlit)) ≤ weigh w (allHeld u)
+weigh-two w [] p q l = omega arith
+weigh-two w (s ∷ u) zero q l = absurd (not-suc-le-zero l)
+weigh-two w (s ∷ u) (suc p) zero l = omega (arith, weigh-cons w s u, weigh-one w u p)
+weigh-two w (s ∷ u) (suc p) (suc q) l = omega (arith, weigh-cons w s u, weigh-two w u p q (le-of-suc-le-suc l))
+
+-- and all weigh nothing where none weighs anything
+weigh-none : (w : Circuit → ℕ) (u : List Slot) → ((p : ℕ) → p < length u → weigh w (held (getD u p unlit)) ≡ 0) → weigh w (allHeld u) ≡ 0
+weigh-none w [] h = refl
+weigh-none w (s ∷ u) h = omega (arith, weigh-cons w s u, h 0 (omega arith), weigh-none w u (λ p l. h (suc p) (suc-le-suc l)))
+
+-- a store takes the old content's amount and gives the new one's
+sum-set : (f : Slot → ℕ) (u : List Slot) (p : ℕ) (s : Slot) → p < length u → weigh f (set u p s) + f (getD u p unlit) ≡ weigh f u + f s
+sum-set f [] p s l = absurd (not-suc-le-zero l)
+sum-set f (x ∷ u) zero s l = omega arith
+sum-set f (x ∷ u) (suc p) s l = omega (arith, sum-set f u p s (le-of-suc-le-suc l))
+
+-- ---- weights of places
+
+module _ (t : Channels) (w : Circuit → ℕ) where
+  -- one place weighs no more than the table
+  pub weigh-place : (p : ℕ) → weigh w (held (at t p)) ≤ weigh w (circuits t)
+  weigh-place p = rw (← slots-at t p) (weigh-one w (slots t) p)
+
+  -- nor do two
+  pub weigh-places : (p q : ℕ) → q < p → weigh w (held (at t q)) + weigh w (held (at t p)) ≤ weigh w (circuits t)
+  weigh-places p q l = rw (← slots-at t p, ← slots-at t q) (weigh-two w (slots t) p q l)
+
+  -- and the table weighs nothing where no place does
+  pub weigh-nowhere : ((p : ℕ) → p < length t → weigh w (held (at t p)) ≡ 0) → weigh w (circuits t) ≡ 0
+  weigh-nowhere h = weigh-none w (slots t) (λ p l. rw (slots-at t p) (h p (omega (arith, slots-length t))))
+
+-- ---- a change of one place
+
+module _ (ch : Change) (t : Channels) where
+  -- there are as many places as before
+  pub put-length : length (put ch t) ≡ length t
+  put-length = length-set t (ch .place) (record { slot = ch .slot })
+
+  -- the place has the new content
+  pub put-here : ch .place < length t → at (put ch t) (ch .place) ≡ ch .slot
+  put-here l = ap (λ c. c .slot) (getD-set-same t (ch .place) (record { slot = ch .slot }) unlitChannel l)
+
+  -- every other has its old one
+  pub put-there : (q : ℕ) → q ≢ ch .place → at (put ch t) q ≡ at t q
+  put-there q n = ap (λ c. c .slot) (getD-set-other t (ch .place) q (record { slot = ch .slot }) unlitChannel n)
+
+  -- an amount for each content: after, with the old content's, it is what it was before, with the new one's
+  pub put-sum : (f : Slot → ℕ) → ch .place < length t → weigh f (slots (put ch t)) + f (at t (ch .place)) ≡ weigh f (slots t) + f (ch .slot)
+  put-sum f l =
+      rw (slots-set t (ch .place) (ch .slot), ← slots-at t (ch .place))
+      (sum-set f (slots t) (ch .place) (ch .slot) (omega (arith, slots-length t)))

@@ -1,0 +1,6 @@
+pub mod Slot
+pub mod Channels
+pub mod Change
+pub mod Nonsharing
+pub mod Lit
+pub mod Gathering

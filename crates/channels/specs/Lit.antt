@@ -1,0 +1,34 @@
+-- 01, "Saved form": the map says which places are lit, two 64-bit words. Assumes nothing.
+use Prim.Native.Nat.{ℕ, zero, suc, _+_, _-_, _*_, _/_, _%_, _^_}
+use mathlib.Core.Bool.{Bool}
+use lib.Dec.{eqb, ltb}
+use Rattle.basis.specs.Choice.{pick, bit}
+use Rattle.channels.specs.Slot.{isLit}
+use Rattle.channels.specs.Channels.{Channels, at}
+pub use Rattle.channels.specs.declared.Lit.{Lit}
+
+-- bit b of w, 0 the lowest
+unfoldable pub bitOf : ℕ → ℕ → Bool
+bitOf w b = eqb (w / 2 ^ b % 2) 1
+
+-- how many of the numbers below n pass a test
+abbrev pub countBelow : ℕ → (ℕ → Bool) → ℕ
+countBelow zero f = 0
+countBelow (suc n) f = bit (f 0) + countBelow n (λ p. f (suc p))
+
+-- the word whose k lowest bits are f at the k numbers from i on
+unfoldable pub word : (ℕ → Bool) → ℕ → ℕ → ℕ
+word f zero i = 0
+word f (suc k) i = word f k (suc i) * 2 + bit (f i)
+
+-- whether place p is lit, by the words: bit p of low, or bit p − 64 of high
+unfoldable pub litBit : Lit → ℕ → Bool
+litBit l p = pick (ltb p 64) (bitOf (l .low) p) (bitOf (l .high) (p - 64))
+
+-- whether place p of the table is lit
+abbrev pub litAt : Channels → ℕ → Bool
+litAt t p = isLit (at t p)
+
+-- the words of a table
+abbrev pub litOf : Channels → Lit
+litOf t = record { low = word (litAt t) 64 0; high = word (litAt t) 64 64 }

@@ -1,0 +1,22 @@
+-- 01, "Opening a circuit": the nonsharing circuits by rising place. Assumes nothing.
+use Prim.Native.Nat.{ℕ, suc}
+use mathlib.Core.List.{List, [], _∷_}
+use lib.ListN.{take}
+use Rattle.channels.specs.Slot.{Slot, unlit, alone, shared, firstOf}
+use Rattle.channels.specs.Channels.{Channels, at, slots}
+pub use Rattle.channels.specs.declared.Standing.{Standing}
+
+-- the circuits alone at some places, which count from p
+abbrev pub aloneFrom : ℕ → List Slot → List Standing
+aloneFrom p [] = []
+aloneFrom p (unlit ∷ u) = aloneFrom (suc p) u
+aloneFrom p (alone a ∷ u) = record { place = p; circuit = a } ∷ aloneFrom (suc p) u
+aloneFrom p (shared a b ∷ u) = aloneFrom (suc p) u
+
+-- the nonsharing circuits of the places below m, by rising place
+abbrev pub nonsharing : ℕ → Channels → List Standing
+nonsharing m t = aloneFrom 0 (take m (slots t))
+
+-- the first circuit of place p, with its place
+abbrev pub standingAt : Channels → ℕ → Standing
+standingAt t p = record { place = p; circuit = firstOf (at t p) }
