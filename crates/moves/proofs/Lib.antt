@@ -1,0 +1,5 @@
+pub mod Listed
+pub mod Written
+pub mod Stores
+pub mod Prelude
+pub mod Walk

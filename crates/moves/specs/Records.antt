@@ -1,0 +1,34 @@
+-- Move records, and the moves of an answer as a list. Assumes nothing.
+use Prim.Native.Nat.{ℕ}
+use mathlib.Core.List.{List, [], _∷_}
+use lib.ListN.{take, getD}
+use Rattle.moves.specs.declared.Move.{Move}
+use Rattle.moves.specs.declared.Moves.{Moves}
+
+-- a record that names no move: all zeros
+abbrev pub blank : Move
+blank = record { number = 0; from = record { 0 = 0 }; to = record { 0 = 0 } }
+
+-- no moves
+abbrev pub none : Moves
+none = record { count = 0; first = blank; second = blank; third = blank }
+
+-- one move
+abbrev pub one : Move → Moves
+one m = record { count = 1; first = m; second = blank; third = blank }
+
+-- two moves, in their order
+abbrev pub two : Move → Move → Moves
+two m n = record { count = 2; first = m; second = n; third = blank }
+
+-- three moves, in their order
+abbrev pub three : Move → Move → Move → Moves
+three m n o = record { count = 3; first = m; second = n; third = o }
+
+-- the moves of an answer, in their order: as many of the three as its count says, and all of them where it says more
+abbrev pub listed : Moves → List Move
+listed a = take (a .count) (a .first ∷ a .second ∷ a .third ∷ [])
+
+-- the move at a position, which counts from 0; a blank record past the last move
+abbrev pub moveAt : Moves → ℕ → Move
+moveAt a i = getD (listed a) i blank
