@@ -1,0 +1,50 @@
+-- A ring within the limits, with no circuits, meets the ring rules. Assumes nothing.
+use Prim.Native.Nat.{ℕ, zero, suc, _-_, _≤_, _<_, zero-le}
+use mathlib.Core.Path.{_≡_, refl, ap, _∙_}
+use mathlib.Core.Bool.{true}
+use mathlib.Core.List.{List, [], _∷_, _++_}
+use native.Mathlib.Omega.{arith}
+use lib.Dec.{leb}
+use lib.ListN.{length, drop, replicate, length-append, length-replicate, getD-replicate}
+use lib.Seq.{drop-at}
+use borrow.Author.Tests.{eq-eqb, le-leb}
+use Rattle.basis.specs.Count.{total}
+use Rattle.basis.proofs.Bools.{and-left, and-right, and-both}
+use Rattle.basis.proofs.Sums.{total-append, total-zeros}
+use Rattle.channels.specs.declared.Slot.the-variants.{Unlit as unlit}
+use Rattle.channels.specs.Channels.{unlitChannel, unlitChannels, at}
+use Rattle.rules.specs.Ports.{eachAtMost}
+use Rattle.rules.proofs.Rules.{Rules}
+
+-- zeros after the port counts are within every bound
+each-zeros : (m n : ℕ) → eachAtMost m (replicate n 0) ≡ true
+each-zeros m zero = refl
+each-zeros m (suc n) = and-both _ _ (le-leb 0 m zero-le) (each-zeros m n)
+
+-- with them the counts are within it still
+each-append : (m : ℕ) (ks ls : List ℕ) → eachAtMost m ks ≡ true → eachAtMost m ls ≡ true → eachAtMost m (ks ++ ls) ≡ true
+each-append m [] ls h k = k
+each-append m (x ∷ ks) ls h k =
+    and-both (leb x m) _ (and-left (leb x m) (eachAtMost m ks) h) (each-append m ks ls (and-right (leb x m) (eachAtMost m ks) h) k)
+
+-- no place is lit
+blank-unlit : (p : ℕ) → p < 128 → at unlitChannels p ≡ unlit
+blank-unlit p l = ap (λ ch. ch .slot) (getD-replicate 128 p unlitChannel unlitChannel l)
+
+-- the rules hold
+pub fresh-rules : (N : ℕ) (ks : List ℕ) → 3 ≤ N → N ≤ 64 → length ks ≡ N → eachAtMost 64 ks ≡ true → total ks ≤ 192
+    → Rules N (ks ++ replicate (64 - length ks) 0) unlitChannels
+fresh-rules N ks three most long each sum = record {
+  bounds =
+      and-both _ _ (and-both _ _ (and-both _ _ (le-leb 3 N three) (le-leb N 64 most)) (each-append 64 ks zeros each (each-zeros 64 (64 - length ks))))
+      (le-leb (total (ks ++ zeros)) 192 (omega (arith, total-append ks zeros, total-zeros (64 - length ks))));
+  sizes = and-both _ _ (eq-eqb (length (ks ++ zeros)) 64 (omega (arith, length-append ks zeros, length-replicate {A = ℕ} (64 - length ks) 0))) refl;
+  unused = λ p l k. rw (blank-unlit p l);
+  places = λ p l. rw (blank-unlit p l);
+  numbers = refl;
+  ports = λ j l. (zero-le, zero-le);
+  spare = eq-eqb (total (drop N (ks ++ zeros))) 0 (ap total (drop-at ks zeros N long) ∙ total-zeros (64 - length ks));
+}
+  where
+    zeros : List ℕ
+    zeros = replicate (64 - length ks) 0

@@ -1,0 +1,104 @@
+-- The loops that count ports in use, and the test that goes by their counts. Assumes nothing.
+use Prim.Native.Nat.{ℕ, _+_, _≤_, _<_}
+use mathlib.Core.Path.{_≡_, sym, _∙_}
+use mathlib.Core.Bool.{Bool, true}
+use mathlib.Core.List.{List, [], _∷_}
+use native.Mathlib.Decide.{ℕ-discrete}
+use native.Mathlib.Numerals.{add-one}
+use native.Mathlib.Omega.{arith}
+use lib.Dec.{eqb}
+use lib.ListN.{length, getD, take, set, replicate, getD-replicate}
+use borrow.Author.Tests.{leb-true, le-leb}
+use lib.Seq.{take-suc, getD-set-same, getD-set-other}
+use Rattle.basis.specs.Choice.{bit}
+use Rattle.basis.specs.Count.{weigh, tally}
+use Rattle.basis.proofs.Bools.{and-left, and-right, and-both, same-test, bit-eq, bit-ne}
+use Rattle.basis.proofs.Weigh.{weigh-append}
+use Rattle.basis.proofs.Search.{every-at, at-every}
+use Rattle.basis.proofs.Sums.{sumBelow}
+use Rattle.basis.proofs.Fold.{Summed, weigh-sum}
+use Rattle.lightpath.specs.Circuit.{blankCircuit}
+use Rattle.lightpath.specs.declared.Circuit.{Circuit}
+use Rattle.channels.specs.Slot.{held}
+use Rattle.channels.specs.declared.Slot.the-variants.{Unlit as unlit}
+use Rattle.channels.specs.Channels.{Channels, at, slots, circuits}
+use Rattle.channels.proofs.Places.{slots-length, slots-at, weigh-slots}
+use Rattle.rules.specs.Ports.{sends, receives}
+use Rattle.rules.specs.Rules.{portsHold}
+use Rattle.rules.specs.Usage.{Tallied, enoughAt, enough}
+use Rattle.rules.proofs.Rules.{ports-from, from-ports}
+
+-- ---- counting by node
+
+-- the start of the loop
+pub tallied-start : (key : Circuit → ℕ) (cs : List Circuit) → Tallied key cs 0 (replicate 256 0)
+tallied-start key cs = record {
+  at = λ k l. getD-replicate {A = ℕ} 256 k 0 0 l;
+  low = λ k l. omega (arith, getD-replicate {A = ℕ} 256 k 0 0 l);
+}
+
+-- its step
+pub tallied-next : (key : Circuit → ℕ) (cs : List Circuit) (n node : ℕ) (counts : List ℕ) → Tallied key cs n counts
+    → node ≡ key (getD cs n blankCircuit) → n < length cs → node < 256 → length counts ≡ 256
+    → Tallied key cs (n + 1) (set counts node (getD counts node 0 + 1))
+tallied-next key cs n node counts h e l m z = record {
+  at = λ k q. goes k q (ℕ-discrete k node);
+  low = λ k q. lows k q (ℕ-discrete k node);
+}
+  where
+    one-more : (k : ℕ) → tally key k (take (n + 1) cs) ≡ tally key k (take n cs) + bit (eqb (key (getD cs n blankCircuit)) k)
+    one-more k =
+        rw (add-one, take-suc cs n blankCircuit l)
+        (omega (arith, weigh-append (λ x. bit (eqb (key x) k)) (take n cs) (getD cs n blankCircuit ∷ [])))
+
+    goes : (k : ℕ) → k < 256 → Dec (k ≡ node) → getD (set counts node (getD counts node 0 + 1)) k 0 ≡ tally key k (take (n + 1) cs)
+    goes k q (yes s) =
+        rw (s, getD-set-same counts node (getD counts node 0 + 1) 0 (omega arith))
+        (omega (arith, one-more node, h .at node m, bit-eq (key (getD cs n blankCircuit)) node (sym e)))
+    goes k q (no s) =
+        rw (getD-set-other counts node k (getD counts node 0 + 1) 0 s)
+        (omega (arith, one-more k, h .at k q, bit-ne (key (getD cs n blankCircuit)) k (λ w. s (sym (e ∙ w)))))
+
+    lows : (k : ℕ) → k < 256 → Dec (k ≡ node) → getD (set counts node (getD counts node 0 + 1)) k 0 ≤ n + 1
+    lows k q (yes s) = rw (s, getD-set-same counts node (getD counts node 0 + 1) 0 (omega arith)) (omega (arith, h .low node m))
+    lows k q (no s) = rw (getD-set-other counts node k (getD counts node 0 + 1) 0 s) (omega (arith, h .low k q))
+
+-- ---- the test on every node
+
+module _ (ks : List ℕ) (cs : List Circuit) (n : ℕ) (sent received : List ℕ) (s : Tallied (λ c. c .source) cs n sent)
+    (r : Tallied (λ c. c .destination) cs n received) (long : length ks ≡ 64) where
+  -- a node's counts are those of what it sends and receives
+  at-node : (j : ℕ) → j < 64 → (getD sent (j + 1) 0 ≡ sends (1 + j) (take n cs)) × (getD received (j + 1) 0 ≡ receives (1 + j) (take n cs))
+  at-node j l = let e : 1 + j ≡ j + 1 = omega arith in rw e (s .at (j + 1) (omega arith), r .at (j + 1) (omega arith))
+
+  -- by them the ports are enough exactly where they hold
+  pub enough-holds : (b : Bool) → b ≡ enough ks sent received → b ≡ portsHold 1 ks (take n cs)
+  enough-holds b e = e ∙ same-test _ _ holds tests
+    where
+      holds : enough ks sent received ≡ true → portsHold 1 ks (take n cs) ≡ true
+      holds e =
+          from-ports 1 ks (take n cs)
+          (λ j l.
+          let b = every-at 64 (enoughAt ks sent received) e j (omega arith) in
+          let k = at-node j (omega arith) in
+          rw (← k .0, ← k .1) (leb-true _ _ (search and-left), leb-true _ _ (search and-right)))
+
+      tests : portsHold 1 ks (take n cs) ≡ true → enough ks sent received ≡ true
+      tests e =
+          at-every 64 (enoughAt ks sent received)
+          (λ j l.
+          let b = ports-from 1 ks (take n cs) e j (omega arith) in
+          let k = at-node j l in
+          rw (k .0, k .1) (and-both _ _ (le-leb _ _ (b .0)) (le-leb _ _ (b .1))))
+
+-- ---- circuits counted place by place
+
+-- a weight over the circuits of a table is the sum of its places'
+pub places-sum : (w : Circuit → ℕ) (t : Channels) (n i s : ℕ) → Summed (λ p. weigh w (held (at t p))) i s → length t ≡ n → n ≤ i → i ≤ n
+    → s ≡ weigh w (circuits t)
+places-sum w t n i s h e l k =
+    let z : i ≡ length (slots t) = omega (arith, slots-length t) in
+    (rw z at (h .so-far)) ∙ same ∙ sym (weigh-sum (λ u. weigh w (held u)) unlit (slots t)) ∙ sym (weigh-slots w (slots t))
+  where
+    same : sumBelow (λ p. weigh w (held (at t p))) (length (slots t)) ≡ sumBelow (λ p. weigh w (held (getD (slots t) p unlit))) (length (slots t))
+    same = simp (slots-at t)

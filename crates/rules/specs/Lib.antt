@@ -1,0 +1,3 @@
+pub mod Ports
+pub mod Rules
+pub mod Usage

@@ -1,0 +1,68 @@
+-- 01, "The ring": the ring rules, in its order, for a ring of N nodes with the port counts ks and the places t. A place's type holds
+-- none, one or two circuits and nothing else, so that it has no unused fields. Assumes nothing.
+use Prim.Native.Nat.{ℕ, suc}
+use mathlib.Core.Bool.{Bool, true, _&&_, _||_}
+use mathlib.Core.List.{List, [], _∷_}
+use lib.Dec.{eqb, leb, ltb}
+use lib.ListN.{length, drop}
+use Rattle.basis.specs.Choice.{bit}
+use Rattle.basis.specs.Count.{weigh, total, distinct}
+use Rattle.basis.specs.Search.{everyBelow}
+use Rattle.lightpath.specs.Place.{directionOf}
+use Rattle.lightpath.specs.Circuit.{joins, uses, canShare}
+use Rattle.lightpath.specs.declared.Circuit.{Circuit}
+use Rattle.channels.specs.Slot.{held, isUnlit}
+use Rattle.channels.specs.declared.Slot.{Slot}
+use Rattle.channels.specs.declared.Slot.the-variants.{Unlit as unlit, Alone as alone, Shared as shared}
+use Rattle.channels.specs.Channels.{Channels, at, circuits}
+use Rattle.rules.specs.Ports.{limitOf, eachAtMost, sends, receives}
+
+-- N from 3 to 64, k_i from 0 to 64, K at most 192
+abbrev pub limits : ℕ → List ℕ → Bool
+limits N ks = leb 3 N && leb N 64 && eachAtMost 64 ks && leb (total ks) 192
+
+-- 64 port fields and 128 places
+abbrev pub sized : List ℕ → Channels → Bool
+sized ks t = eqb (length ks) 64 && eqb (length t) 128
+
+-- unused fields are zero: the port counts beyond N
+abbrev pub spareZero : ℕ → List ℕ → Bool
+spareZero N ks = eqb (total (drop N ks)) 0
+
+-- places from m up stay unlit
+abbrev pub unlitFrom : ℕ → Channels → Bool
+unlitFrom m t = everyBelow 128 (λ p. ltb p m || isUnlit (at t p))
+
+-- source and destination on the ring and different
+abbrev pub ends : ℕ → Slot → Bool
+ends N unlit = true
+ends N (alone a) = joins N a
+ends N (shared a b) = joins N a && joins N b
+
+-- no node sends or receives more than k_i circuits: the nodes from i on
+abbrev pub portsHold : ℕ → List ℕ → List Circuit → Bool
+portsHold i [] cs = true
+portsHold i (k ∷ ks) cs = leb (sends i cs) k && leb (receives i cs) k && portsHold (suc i) ks cs
+
+-- lower number first; two only when they are adjacent and can share in the direction of place p
+abbrev pub shares : ℕ → ℕ → Slot → Bool
+shares N p unlit = true
+shares N p (alone a) = true
+shares N p (shared a b) = ltb (a .number) (b .number) && canShare N (directionOf p) a b
+
+-- what place p holds is on the ring of N nodes and may stand there
+abbrev pub fits : ℕ → ℕ → Slot → Bool
+fits N p s = ends N s && shares N p s
+
+abbrev pub ringRules : ℕ → List ℕ → Channels → Bool
+ringRules N ks t =
+    limits N ks && sized ks t && unlitFrom (limitOf ks) t
+    && everyBelow 128 (λ p. ends N (at t p))
+    && distinct (λ c. c .number) (circuits t)
+    && portsHold 1 ks (circuits t)
+    && everyBelow 128 (λ p. shares N p (at t p))
+    && spareZero N ks
+
+-- a circuit at its place is a lightpath: how many lightpaths of place p go over link l
+abbrev pub carried : ℕ → Channels → ℕ → ℕ → ℕ
+carried N t p l = weigh (λ c. bit (uses N (directionOf p) c l)) (held (at t p))
