@@ -1,0 +1,58 @@
+-- `assign::places::join_place` meets its contract. Assumes nothing.
+use Prim.Native.Nat.{_-_, _≤_}
+use mathlib.Core.Bool.{false}
+use Rattle.channels.specs.Channels.{at}
+use Rattle.assign.specs.Steps.{canJoin}
+use Rattle.basis.proofs.Scan.{Passed, scan}
+use borrow.Author.Needs.{needs}
+use Rattle.assign.proofs.places.join_place.Statement.{statement}
+use Rattle.assign.proofs.places.join_place.Tie as tie
+
+abbrev Inv-loop : tie.InvT-loop
+Inv-loop nodes limit circuit channels place₀ place = (place ≤ limit) × Passed (λ p. canJoin nodes circuit p (at channels p)) false place
+
+abbrev μ-loop : tie.MeasureT-loop
+μ-loop nodes limit circuit channels place₀ place = limit - place
+
+loop-holds : tie.Need-loop-holds Inv-loop μ-loop
+loop-holds c = search (needs, scan)
+
+mul-channel : tie.Need-mul-channel Inv-loop μ-loop
+mul-channel c = search (needs, scan)
+
+array-copy-out-channel : tie.Need-array-copy-out-channel Inv-loop μ-loop
+array-copy-out-channel c = search (needs, scan)
+
+can-join-requires : tie.Need-can-join-requires Inv-loop μ-loop
+can-join-requires c κs = search (needs, scan)
+
+returns : tie.Need-returns Inv-loop μ-loop
+returns c = search (needs, scan)
+
+add-place : tie.Need-add-place Inv-loop μ-loop
+add-place c = search (needs, scan)
+
+loop-less : tie.Need-loop-less Inv-loop μ-loop
+loop-less c = search (needs, scan)
+
+loop-again : tie.Need-loop-again Inv-loop μ-loop
+loop-again c = search (needs, scan)
+
+returns-2 : tie.Need-returns-2 Inv-loop μ-loop
+returns-2 c = search (needs, scan)
+
+pub join-place-spec : {M : Type 1} → statement M
+join-place-spec =
+    tie.close
+    (tie.spec
+    Inv-loop
+    μ-loop
+    loop-holds
+    mul-channel
+    array-copy-out-channel
+    can-join-requires
+    returns
+    add-place
+    loop-less
+    loop-again
+    returns-2)

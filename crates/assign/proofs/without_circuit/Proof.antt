@@ -1,0 +1,37 @@
+-- `assign::without_circuit` meets its contract. Assumes nothing.
+use borrow.Author.Needs.{needs}
+use Rattle.assign.proofs.without_circuit.Statement.{statement}
+use Rattle.assign.proofs.without_circuit.Tie as tie
+
+place-of-requires : tie.Need-place-of-requires
+place-of-requires c κs = search needs
+
+mul-channel : tie.Need-mul-channel
+mul-channel c = search needs
+
+array-copy-out-channel : tie.Need-array-copy-out-channel
+array-copy-out-channel c = search needs
+
+without-requires : tie.Need-without-requires
+without-requires c κs = search needs
+
+mul-after : tie.Need-mul-after
+mul-after c = search needs
+
+array-set-from-after : tie.Need-array-set-from-after
+array-set-from-after c = search needs
+
+returns : tie.Need-returns
+returns c = rw (c .without .ensures, c .before .before .place-of .ensures)
+
+pub without-circuit-spec : {M : Type 1} → statement M
+without-circuit-spec =
+    tie.close
+    (tie.spec
+    place-of-requires
+    mul-channel
+    array-copy-out-channel
+    without-requires
+    mul-after
+    array-set-from-after
+    returns)

@@ -1,0 +1,6 @@
+pub mod Plan
+pub mod Steps
+pub mod Pairs
+pub mod Assigned
+pub mod Closing
+pub mod Kept
