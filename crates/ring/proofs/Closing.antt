@@ -1,0 +1,80 @@
+-- Closing a circuit: the answer goes by the tests; of a table that meets the ring rules a live number takes exactly its circuit off, and
+-- the rules are met again. Assumes nothing.
+use Prim.Native.Nat.{ℕ, _<_}
+use mathlib.Core.Path.{_≡_, refl, sym, ap, subst, _∙_}
+use mathlib.Core.Logic.{_≢_}
+use mathlib.Core.Bool.{Bool, true, false, not}
+use mathlib.Core.List.{[], _∷_}
+use borrow.Author.Tests.{not-true, not-false}
+use Rattle.channels.specs.Channels.{Channels, at, live, whereIs, circuitOf}
+use Rattle.channels.proofs.Numbers.{live-placed}
+use Rattle.rules.proofs.Rules.{rules-hold, limits-hold}
+use Rattle.assign.specs.Closing.{closed}
+use Rattle.assign.specs.Kept.{Kept}
+use Rattle.assign.proofs.Closing.{closes, close-there}
+use Rattle.ring.specs.Table.{RingTable, meetsRules, withChannels}
+use Rattle.ring.specs.Refusal.{granted, refused, NotLive, BrokenRule}
+use Rattle.ring.specs.Closing.{Answered, closedBy, closeOf}
+
+-- from the table t to t′ the circuit of number n is taken off, and nothing else is changed
+pub record TakenOff (t : RingTable) (n : ℕ) (t′ : RingTable) : Type 0 where
+  pub sameNodes : t′ .nodes ≡ t .nodes
+  pub samePorts : t′ .ports ≡ t .ports
+  -- exactly that circuit goes, no other moves, and the ring rules are met again
+  pub kept : Kept (t .nodes) (t .ports) (t .channels) (circuitOf (t .channels) n ∷ []) [] (t′ .channels) []
+  -- every other place is as it was
+  pub elsewhere : (q : ℕ) → q ≢ whereIs (t .channels) n → at (t′ .channels) q ≡ at (t .channels) q
+
+-- a table that was found to break a rule is met by 22
+pub close-unmet : (t : RingTable) (n : ℕ) (r : Bool) → r ≡ meetsRules t → not r ≡ true → closedBy t n (refused BrokenRule) ≡ closeOf t n
+unfolding closeOf
+close-unmet t n r e h = rw (← e, not-true r h)
+
+module _ (t : RingTable) (n : ℕ) (rules : meetsRules t ≡ true) where
+  -- a live number is closed
+  pub close-live : live (t .channels) n ≡ true → closeOf t n ≡ closedBy t n granted
+  unfolding closeOf
+  close-live l = rw (rules, l)
+
+  -- another is refused by 15
+  pub close-dead : live (t .channels) n ≡ false → closeOf t n ≡ closedBy t n (refused NotLive)
+  unfolding closeOf
+  close-dead d = rw (rules, d)
+
+  -- a number that was found live is closed
+  pub close-found : (r : Bool) (chs : Channels) → r ≡ live (t .channels) n → not r ≡ false → chs ≡ closed (t .channels) n
+      → record { table = withChannels t chs; verdict = granted } ≡ closeOf t n
+  close-found r chs e h k = rw k (sym (close-live (sym e ∙ not-false r h)))
+
+  -- one that was not is refused
+  pub close-missed : (r : Bool) → r ≡ live (t .channels) n → not r ≡ true → closedBy t n (refused NotLive) ≡ closeOf t n
+  close-missed r e h = sym (close-dead (sym e ∙ not-true r h))
+
+  -- and one found live has a place
+  pub close-placed : (r : Bool) → r ≡ live (t .channels) n → not r ≡ false → whereIs (t .channels) n < 128
+  close-placed r e h =
+      live-placed (t .channels) n (limits-hold (t .nodes) (t .ports) (t .channels) (rules-hold (t .nodes) (t .ports) (t .channels) rules) .long)
+      (sym e ∙ not-false r h)
+
+  -- what the closing of the places keeps
+  keeps : live (t .channels) n ≡ true → Kept (t .nodes) (t .ports) (t .channels) (circuitOf (t .channels) n ∷ []) [] (closed (t .channels) n) []
+  keeps l = closes (t .nodes) (t .ports) (t .channels) (rules-hold (t .nodes) (t .ports) (t .channels) rules) n l
+
+  -- the circuit is taken off
+  pub close-takes : live (t .channels) n ≡ true → TakenOff t n (closeOf t n .table)
+  close-takes l =
+      subst (λ (a : Answered). TakenOff t n (a .table)) (sym (close-live l))
+      (record {
+        sameNodes = refl;
+        samePorts = refl;
+        kept = keeps l;
+        elsewhere = close-there (t .channels) n;
+      })
+
+  -- whatever the answer, the table after it meets the ring rules
+  pub close-rules : meetsRules (closeOf t n .table) ≡ true
+  close-rules = go (live (t .channels) n) refl
+    where
+      go : (o : Bool) → live (t .channels) n ≡ o → meetsRules (closeOf t n .table) ≡ true
+      go true l = ap (λ a. meetsRules (a .table)) (close-live l) ∙ keeps l .rules
+      go false d = ap (λ a. meetsRules (a .table)) (close-dead d) ∙ rules

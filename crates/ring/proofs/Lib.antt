@@ -1,0 +1,10 @@
+-- The laws of the ring table: what is refused, demand 3, and that making, opening and closing keep the ring rules; and the lending of a
+-- local array.
+pub mod Live
+pub mod Causes
+pub mod Served
+pub mod Demand
+pub mod Closing
+pub mod Making
+pub mod Fields
+pub mod LocalArray

@@ -1,0 +1,63 @@
+-- What an opening of a table that meets the ring rules gives, by its verdict; the table after it meets them again. Assumes nothing.
+use Prim.Native.Nat.{ℕ}
+use mathlib.Core.Path.{_≡_, refl, sym, ap, _∙_}
+use mathlib.Core.Bool.{Bool, true, not}
+use lib.Dec.{ltb}
+use borrow.Author.Tests.{not-true}
+use Rattle.lightpath.specs.declared.Circuit.{Circuit}
+use Rattle.moves.specs.Records.{listed}
+use Rattle.rules.specs.Ports.{limitOf}
+use Rattle.rules.proofs.Rules.{rules-hold}
+use Rattle.rules.proofs.Allowable.{Allowable}
+use Rattle.assign.specs.Assigned.{assignedOf, Ready}
+use Rattle.assign.specs.declared.Assigned.{Assigned}
+use Rattle.assign.specs.Kept.{Served}
+use Rattle.assign.proofs.Step3.{ready}
+use Rattle.assign.proofs.ByValue.{assigned-serves}
+use Rattle.ring.specs.Table.{RingTable, meetsRules}
+use Rattle.ring.specs.Refusal.{Verdict, granted, refused, ShortList, BrokenRule, _if_, judged}
+use Rattle.ring.specs.Opening.{Decision, requestCauses, openCauses, refusing, decidedBy, decideOf}
+use Rattle.ring.proofs.Causes.{granted-rest, allowable}
+
+-- the answer of the steps for a request
+abbrev pub assigned : RingTable → Circuit → Assigned
+assigned t c = assignedOf (t .nodes) (limitOf (t .ports)) (t .channels) c
+
+-- a table that was found to break a rule is met by 22
+pub decide-unmet : (t : RingTable) (c : Circuit) (n : ℕ) (r : Bool) (d : Decision) → r ≡ meetsRules t → not r ≡ true
+    → d ≡ refusing t BrokenRule → d ≡ decideOf t c n
+unfolding decideOf
+decide-unmet t c n r d e h k = rw (← e, not-true r h) k
+
+module _ (t : RingTable) (c : Circuit) (n : ℕ) (rules : meetsRules t ≡ true) where
+  -- 22 does not come up
+  pub decided : (v : Verdict) → judged (openCauses t c n) ≡ v → decideOf t c n ≡ decidedBy t c v
+  unfolding decideOf
+  decided v e = rw (rules, e)
+
+  -- the answer goes by the verdict that was found
+  pub decide-by : (v w : Verdict) (d : Decision) → v ≡ judged (openCauses t c n) → v ≡ w → d ≡ decidedBy t c w → d ≡ decideOf t c n
+  decide-by v w d e h k = k ∙ sym (decided w (sym e ∙ h))
+
+  -- a request that no cause meets is one that the ports permit
+  permits : judged (openCauses t c n) ≡ granted → Allowable (t .nodes) (t .ports) (t .channels) c
+  permits e = allowable t c (granted-rest (ShortList if ltb n 3) (requestCauses t c) e)
+
+  -- the table is ready for its steps
+  pub open-ready : (v : Verdict) → v ≡ judged (openCauses t c n) → v ≡ granted → Ready (t .nodes) (limitOf (t .ports)) (t .channels) c
+  open-ready v e h =
+      ready (t .nodes) (t .ports) (t .channels) c (rules-hold (t .nodes) (t .ports) (t .channels) rules) (permits (sym e ∙ h))
+
+  -- and they serve it
+  pub serves : judged (openCauses t c n) ≡ granted
+      → Served (t .nodes) (t .ports) (t .channels) c (assigned t c .channels) (assigned t c .place .0) (listed (assigned t c .moves))
+  serves e =
+      assigned-serves (t .nodes) (t .ports) (t .channels) c (rules-hold (t .nodes) (t .ports) (t .channels) rules) (permits e)
+
+  -- whatever the answer, the table after it meets the ring rules
+  pub open-rules : meetsRules (decideOf t c n .opened .table) ≡ true
+  open-rules = go (judged (openCauses t c n)) refl
+    where
+      go : (v : Verdict) → judged (openCauses t c n) ≡ v → meetsRules (decideOf t c n .opened .table) ≡ true
+      go granted e = ap (λ d. meetsRules (d .opened .table)) (decided granted e) ∙ serves e .kept .rules
+      go (refused r) e = ap (λ d. meetsRules (d .opened .table)) (decided (refused r) e) ∙ rules

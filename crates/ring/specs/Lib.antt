@@ -1,0 +1,6 @@
+pub mod Table
+pub mod Refusal
+pub mod Making
+pub mod Opening
+pub mod Closing
+pub mod Demand3
