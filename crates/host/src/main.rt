@@ -1,0 +1,165 @@
+// A host of the ring controller: it makes document 01's ring, opens its circuits with a list of move records that it lends, closes one,
+// and prints what it got.
+
+ghost use mathlib.Core.Path.{_≡_};
+ghost use lib.ListN.{replicate};
+ghost use Rattle.moves.specs.Records.{blank};
+ghost use Rattle.ring.specs.Opening.{openOf};
+use libc::STDOUT_FILENO;
+use lightpath::Circuit;
+use lightpath::Place;
+use moves::Move;
+use ring::Opened;
+use ring::Opening;
+use ring::Refusal;
+use ring::RingTable;
+use ring::Verdict;
+
+// A byte as a number to print.
+fn wide8(x: u8) -> u64 {
+    x as u64
+}
+
+// Two bytes as a number to print.
+fn wide16(x: u16) -> u64 {
+    x as u64
+}
+
+// Four bytes as a number to print.
+fn wide32(x: u32) -> u64 {
+    x as u64
+}
+
+// A word and a number.
+fn print(word: &[u8], number: u64) {
+    io::write_all(STDOUT_FILENO, word);
+    io::print_decimal(STDOUT_FILENO, number);
+}
+
+// The line's end.
+fn end_line() {
+    io::write_all(STDOUT_FILENO, b"\n");
+}
+
+// The number of a refusal.
+fn print_refusal(refusal: Refusal) {
+    print(b" refused ", wide8(ring::refusal_number(refusal)));
+}
+
+// A record of the list that was lent.
+fn print_move(record: Move) {
+    print(b"move ", wide32(record.number));
+    print(b" from ", wide8(record.from.0));
+    print(b" to ", wide8(record.to.0));
+    end_line();
+}
+
+// The first records of the list, as many as there are moves.
+fn print_moves(count: u8, list: [Move; 4]) {
+    if 0 < count {
+        print_move(list[0]);
+    }
+    if 1 < count {
+        print_move(list[1]);
+    }
+    if 2 < count {
+        print_move(list[2]);
+    }
+}
+
+// What came of an opening.
+fn print_opening(circuit: Circuit, opened: Opened, list: [Move; 4]) {
+    print(b"open ", wide32(circuit.number));
+    let answer = opened.answer;
+    match answer {
+        Opening::Taken {
+            place,
+            moves,
+            looks,
+        } => {
+            print(b" place ", wide8(place.0));
+            print(b" moves ", wide8(moves));
+            print(b" looks ", wide16(looks));
+            end_line();
+            print_moves(moves, list);
+        }
+        Opening::Refused(refusal) => {
+            print_refusal(refusal);
+            end_line();
+        }
+    }
+}
+
+// Four records to lend, one more than an opening ever writes.
+fn records() -> [Move; 4]
+    ensures { λ r. ⌜ r ≡ replicate 4 blank ⌝ }
+{
+    let record = Move {
+        number: 0,
+        from: Place(0),
+        to: Place(0),
+    };
+    [record; 4]
+}
+
+// A circuit is opened with a list of four records, and the table after it is handed on.
+fn open_circuit(table: RingTable, circuit: Circuit) -> RingTable
+    ensures { λ r. ⌜ r ≡ openOf table circuit (replicate 4 blank) .table ⌝ }
+{
+    let mut list = records();
+    let opened = table.open(circuit, &mut list);
+    print_opening(circuit, opened, list);
+    opened.table
+}
+
+// The end of a line, with the refusal if there is one.
+fn print_verdict(verdict: Verdict) {
+    match verdict {
+        Verdict::Granted => {}
+        Verdict::Refused(refusal) => print_refusal(refusal),
+    }
+    end_line();
+}
+
+// A circuit is closed, and the table after it is handed on.
+fn close_circuit(table: RingTable, number: u32) -> RingTable {
+    let closed = table.close(number);
+    let verdict = closed.verdict;
+    print(b"close ", wide32(number));
+    print_verdict(verdict);
+    closed.table
+}
+
+// A ring of five nodes, with a transmitter and a receiver at each.
+fn make_ring() -> RingTable {
+    let made = RingTable::make(5, b"\x01\x01\x01\x01\x01");
+    let table = made.table;
+    let verdict = made.verdict;
+    print(b"ring ", wide8(table.nodes));
+    print(b" wavelengths ", wide16(table.wavelengths()));
+    print_verdict(verdict);
+    table
+}
+
+// A circuit without a remark.
+fn circuit(number: u32, source: u8, destination: u8) -> Circuit {
+    Circuit {
+        number,
+        source,
+        destination,
+        remark: 0,
+    }
+}
+
+// Document 01's script.
+fn main() {
+    let table = make_ring();
+    let table = open_circuit(table, circuit(11, 1, 5));
+    let table = open_circuit(table, circuit(12, 2, 3));
+    let table = open_circuit(table, circuit(13, 4, 1));
+    let table = open_circuit(table, circuit(14, 3, 2));
+    let table = open_circuit(table, circuit(15, 5, 4));
+    let table = open_circuit(table, circuit(16, 1, 2));
+    let table = close_circuit(table, 13);
+    open_circuit(table, circuit(16, 4, 1));
+}
