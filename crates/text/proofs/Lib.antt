@@ -1,0 +1,4 @@
+pub mod Put
+pub mod Decimal
+pub mod Reading
+pub mod Back

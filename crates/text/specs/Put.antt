@@ -1,0 +1,15 @@
+-- Writing into a lent buffer: what a write leaves, and the room that it needs. Assumes nothing.
+use Prim.Native.Nat.{ℕ, _+_, _≤_}
+use mathlib.Core.Path.{_≡_}
+use mathlib.Core.List.{List}
+use lib.ListN.{length}
+use lib.Seq.{sets}
+
+-- of the buffer l, l′ has the bytes vs from position at on and is else the same; next is the position after them
+pub record Put (l : List ℕ) (at : ℕ) (vs : List ℕ) (l′ : List ℕ) (next : ℕ) : Type 0 where
+  pub is : l′ ≡ sets l at vs
+  pub end : next ≡ at + length vs
+
+-- the buffer l has room for the bytes vs from position at on
+pub record Room (l : List ℕ) (at : ℕ) (vs : List ℕ) : Type 0 where
+  pub fits : at + length vs ≤ length l
