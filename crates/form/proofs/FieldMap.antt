@@ -1,0 +1,49 @@
+-- The field map of a record, and back from its bits. Assumes nothing.
+use Prim.Native.Nat.{ℕ, _/_, _%_, _<_}
+use mathlib.Core.Path.{_≡_}
+use mathlib.Core.Bool.{Bool, true, false, _||_, not}
+use mathlib.Core.List.{[], _∷_}
+use native.Mathlib.Omega.{arith}
+use lib.Dec.{ltb}
+use lib.ListN.{getD}
+use borrow.Author.Tests.{lt-ltb, ltb-true, not-true}
+use Rattle.basis.proofs.Bools.{and-left, and-right}
+use Rattle.basis.proofs.Weigh.{bit-most}
+use Rattle.channels.specs.Lit.{bitOf, word}
+use Rattle.form.specs.Form.{fieldMap}
+use Rattle.form.specs.Reading.{mapHolds}
+use Rattle.channels.proofs.Bits.{word-bit}
+use Rattle.form.proofs.Words.{digit}
+
+module _ (x y z : Bool) where
+  pub map-bit0 : bitOf (fieldMap x y z) 0 ≡ x
+  unfolding fieldMap
+  map-bit0 = word-bit (λ b. getD (x ∷ y ∷ z ∷ []) b false) 8 0 0 (omega arith)
+
+  pub map-bit1 : bitOf (fieldMap x y z) 1 ≡ y
+  unfolding fieldMap
+  map-bit1 = word-bit (λ b. getD (x ∷ y ∷ z ∷ []) b false) 8 0 1 (omega arith)
+
+  pub map-bit2 : bitOf (fieldMap x y z) 2 ≡ z
+  unfolding fieldMap
+  map-bit2 = word-bit (λ b. getD (x ∷ y ∷ z ∷ []) b false) 8 0 2 (omega arith)
+
+  small : fieldMap x y z < 8
+  unfolding fieldMap word
+  small = omega (arith, bit-most x, bit-most y, bit-most z)
+
+  pub map-holds : (y || not z) ≡ true → mapHolds (fieldMap x y z) ≡ true
+  unfolding mapHolds
+  map-holds h = rw (lt-ltb (fieldMap x y z) 8 small, map-bit1, map-bit2) h
+
+-- a map that holds is that of its bits
+pub map-is : (m : ℕ) → mapHolds m ≡ true → fieldMap (bitOf m 0) (bitOf m 1) (bitOf m 2) ≡ m
+unfolding mapHolds fieldMap word bitOf
+map-is m h =
+    let l : m < 8 = ltb-true m 8 (and-left _ _ h) in
+    omega (arith, digit (m / 1 % 2) (omega arith), digit (m / 2 % 2) (omega arith), digit (m / 4 % 2) (omega arith))
+
+-- bit 2 doesn't stand without bit 1
+pub second-absent : (m : ℕ) → mapHolds m ≡ true → bitOf m 1 ≡ false → bitOf m 2 ≡ false
+unfolding mapHolds
+second-absent m h e = not-true (bitOf m 2) (rw e at (and-right (ltb m 8) _ h))

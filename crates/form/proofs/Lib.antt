@@ -1,0 +1,9 @@
+pub mod Words
+pub mod Ports
+pub mod FieldMap
+pub mod Trip
+pub mod Fields
+pub mod Unique
+pub mod Whole
+pub mod Length
+pub mod Laws
