@@ -1,0 +1,66 @@
+-- What writing answers, and what it leaves in the lent bytes. Assumes nothing.
+use Prim.Native.Nat.{ℕ, _+_, _≤_, _<_}
+use mathlib.Core.Path.{_≡_, _∙_}
+use mathlib.Core.Bool.{Bool, true, false, not}
+use mathlib.Core.List.{List, [], _++_}
+use native.Mathlib.Nat.{zero-add}
+use native.Mathlib.Omega.{arith}
+use lib.ListN.{length, drop}
+use lib.Seq.{sets, sets-eq}
+use borrow.Author.Tests.{lt-ltb, le-ltb, not-true, not-false}
+use Rattle.rules.proofs.Rules.{rules-hold, limits-hold}
+use Rattle.ring.specs.Table.{meetsRules}
+use Rattle.ring.specs.declared.RingTable.{RingTable}
+use Rattle.ring.specs.declared.Refusal.the-variants.{ShortBuffer, BrokenRule}
+use Rattle.form.specs.Form.{formOf}
+use Rattle.encode.specs.declared.Written.the-variants.{Length, Refused}
+use Rattle.text.specs.Put.{Room, Put}
+use Rattle.encode.specs.Answer.{writtenOf, lentAfter}
+
+-- the table breaks a ring rule
+module _ (t : RingTable) (l : List ℕ) (v : Bool) (e : v ≡ meetsRules t) (h : not v ≡ true) where
+  pub broken : Refused BrokenRule ≡ writtenOf t (length l)
+  unfolding writtenOf
+  broken = rw (← e, not-true v h)
+
+  pub broken-kept : l ≡ lentAfter t l
+  unfolding lentAfter
+  broken-kept = rw (← e, not-true v h)
+
+-- it meets them
+pub unbroken : (t : RingTable) (v : Bool) → v ≡ meetsRules t → not v ≡ false → meetsRules t ≡ true
+unbroken t v e h = rw (← e) (not-false v h)
+
+module _ (t : RingTable) (l : List ℕ) (m : meetsRules t ≡ true) where
+  -- the nodes are few enough for their ports
+  pub few-nodes : t .nodes ≤ 64
+  few-nodes = limits-hold (t .nodes) (t .ports) (t .channels) (rules-hold (t .nodes) (t .ports) (t .channels) m) .most
+
+  module _ (n : ℕ) (g : n ≡ length (formOf t)) where
+    -- the buffer is shorter than the form
+    pub short : length l < n → Refused ShortBuffer ≡ writtenOf t (length l)
+    unfolding writtenOf
+    short k = rw (m, lt-ltb (length l) (length (formOf t)) (omega arith))
+
+    pub short-kept : length l < n → l ≡ lentAfter t l
+    unfolding lentAfter
+    short-kept k = rw (m, lt-ltb (length l) (length (formOf t)) (omega arith))
+
+    -- it is not
+    module _ (k : n ≤ length l) where
+      pub form-room : Room l 0 (formOf t)
+      form-room = record { fits = omega arith }
+
+      pub written : Length n ≡ writtenOf t (length l)
+      unfolding writtenOf
+      written = rw (m, le-ltb (length l) (length (formOf t)) (omega arith), g)
+
+      pub form-over : (l1 : List ℕ) (i : ℕ) → Put l 0 (formOf t) l1 i → l1 ≡ lentAfter t l
+      unfolding lentAfter
+      form-over l1 i q =
+          let w : sets l 0 (formOf t) ≡ [] ++ formOf t ++ drop (0 + length (formOf t)) l = sets-eq (formOf t) l 0 (omega arith) in
+          rw (m, le-ltb (length l) (length (formOf t)) (omega arith)) (q .is ∙ w ∙ rw zero-add)
+
+pub ruleset brokenRules = (broken, broken-kept, unbroken)
+
+pub ruleset answerRules = (few-nodes, short, short-kept, form-room, written, form-over)

@@ -1,0 +1,107 @@
+-- The length of a form. Assumes nothing.
+use Prim.Native.Nat.{ℕ, _+_, _*_, _≤_, _<_}
+use mathlib.Core.Path.{_≡_, ap, _∙_}
+use mathlib.Core.List.{List, [], _∷_, _++_}
+use native.Mathlib.Numerals.{add-one}
+use native.Mathlib.Omega.{arith}
+use lib.ListN.{length, getD, drop, length-append, drop-of-length-le}
+use lib.Seq.{drop-cons, length-take-le}
+use borrow.Author.Tests.{eq-eqb, ne-eqb}
+use Rattle.basis.specs.Choice.{bit}
+use Rattle.lightpath.specs.declared.Circuit.{Circuit}
+use Rattle.channels.specs.declared.Lit.{Lit}
+use Rattle.channels.specs.declared.Slot.{Slot}
+use Rattle.channels.specs.declared.Slot.the-variants.{Unlit as unlit, Alone as alone, Shared as shared}
+use Rattle.channels.specs.Slot.{isLit}
+use Rattle.channels.specs.Channels.{Channels, unlitChannel, at, litPlaces}
+use Rattle.channels.specs.Lit.{countBelow, litBit, litAt, litOf}
+use Rattle.channels.proofs.Words.{lit-places}
+use Rattle.ring.specs.declared.RingTable.{RingTable}
+use Rattle.form.specs.Bytes.{fourBytes, twoBytes}
+use Rattle.form.specs.Form.{mapBytes, remarkBytes, circuitBytes, recordBytes, recordsBytes, portsBytes, formOf}
+use Rattle.form.proofs.Words.{map-long}
+use Rattle.encode.specs.Words.{onesOf}
+
+-- ---- a circuit and a place
+
+pub plain-long : (c : Circuit) → c .remark ≡ 0 → 6 ≡ length (circuitBytes c)
+unfolding circuitBytes fourBytes twoBytes remarkBytes
+plain-long c h = rw (eq-eqb (c .remark) 0 h)
+
+pub remark-long : (c : Circuit) → (c .remark ≡ 0 → ⊥) → 8 ≡ length (circuitBytes c)
+unfolding circuitBytes fourBytes twoBytes remarkBytes
+remark-long c h = rw (ne-eqb (c .remark) 0 h)
+
+pub unlit-long : (s : Slot) → s ≡ unlit → 0 + bit (isLit s) ≡ length (recordBytes s)
+unfolding recordBytes
+unlit-long s e = rw e
+
+pub alone-long : (s : Slot) (a : Circuit) (n : ℕ) → s ≡ alone a → n ≡ length (circuitBytes a) → n + bit (isLit s) ≡ length (recordBytes s)
+unfolding recordBytes
+alone-long s a n e g = rw e (omega arith)
+
+pub shared-long : (s : Slot) (a b : Circuit) (n m : ℕ) → s ≡ shared a b → n ≡ length (circuitBytes a) → m ≡ length (circuitBytes b)
+    → n + m + bit (isLit s) ≡ length (recordBytes s)
+unfolding recordBytes
+shared-long s a b n m e g h = rw e (omega (arith, length-append (circuitBytes a) (circuitBytes b)))
+
+pub ruleset lengths = (plain-long, remark-long, unlit-long, alone-long, shared-long)
+
+-- ---- all places
+
+ones-are : (chs : Channels) → length chs ≡ 128 → onesOf (litOf chs) ≡ litPlaces chs
+unfolding onesOf
+ones-are chs e = lit-places chs e
+
+-- the circuits of the places below p take sum bytes
+pub record Measured (chs : Channels) (p sum : ℕ) : Type 0 where
+  pub is : length (recordsBytes chs) + litPlaces (drop p chs) ≡ sum + litPlaces chs + length (recordsBytes (drop p chs))
+  pub small : sum ≤ 16 * p
+
+module _ (chs : Channels) where
+  pub measured-none : Measured chs 0 0
+  measured-none = record { is = omega arith; small = omega arith }
+
+  module _ (p sum : ℕ) (q : Measured chs p sum) where
+    pub measured-next : (n : ℕ) → p < length chs → (n + bit (isLit (getD chs p unlitChannel .slot)) ≡ length (recordBytes (getD chs p unlitChannel .slot))) × (n ≤ 16)
+        → Measured chs (p + 1) (sum + n)
+    unfolding recordsBytes
+    measured-next n h e =
+        let s : Slot = at chs p in
+        let d : drop p chs ≡ record { slot = s } ∷ drop (p + 1) chs = rw (add-one, drop-cons chs p unlitChannel h) in
+        record {
+          is = omega (arith, q .is, ap litPlaces d, ap (λ (x : Channels). length (recordsBytes x)) d, length-append (recordBytes s) (recordsBytes (drop (p + 1) chs)));
+          small = omega (arith, q .small);
+        }
+
+    pub measured-all : length chs ≡ 128 → 128 ≤ p → sum + onesOf (litOf chs) ≡ length (recordsBytes chs)
+    unfolding recordsBytes
+    measured-all e h =
+        let k : length chs ≤ p = omega arith in
+        let z : drop p chs ≡ [] = drop-of-length-le chs k in
+        omega (arith, q .is, ones-are chs e, ap litPlaces z, ap (λ (x : Channels). length (recordsBytes x)) z)
+
+pub ruleset measured = (measured-none, measured-next, measured-all)
+
+-- ---- the form
+
+counted : (lit : Lit) (ones : ℕ) → ones ≡ countBelow 128 (litBit lit) → ones ≡ onesOf lit
+unfolding onesOf
+counted lit ones c = c
+
+sum : (t : RingTable) (ones n : ℕ) → length (t .ports) ≡ 64 → t .nodes ≤ 64 → ones ≡ onesOf (litOf (t .channels))
+    → n + onesOf (litOf (t .channels)) ≡ length (recordsBytes (t .channels)) → 17 + t .nodes + ones + n ≡ length (formOf t)
+unfolding formOf
+sum t ones n e h g m =
+    let map : List ℕ = mapBytes (litAt (t .channels)) 16 0 in
+    omega (
+      arith,
+      length-take-le (t .nodes) (t .ports) (omega arith),
+      length-append (portsBytes t) (map ++ recordsBytes (t .channels)),
+      length-append map (recordsBytes (t .channels)),
+      map-long (litAt (t .channels)) 16 0,
+    )
+
+pub form-long : (t : RingTable) (lit : Lit) (ones n : ℕ) → length (t .ports) ≡ 64 → t .nodes ≤ 64 → lit ≡ litOf (t .channels)
+    → ones ≡ countBelow 128 (litBit lit) → n + onesOf (litOf (t .channels)) ≡ length (recordsBytes (t .channels)) → 17 + t .nodes + ones + n ≡ length (formOf t)
+form-long t lit ones n e h g c m = sum t ones n e h (counted lit ones c ∙ rw g) m

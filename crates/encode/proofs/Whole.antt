@@ -1,0 +1,71 @@
+-- Writing the whole form. Assumes nothing.
+use Prim.Native.Nat.{ℕ, zero, suc, _+_, _*_, _/_, _%_, _≤_}
+use mathlib.Core.Path.{_≡_, refl, sym}
+use mathlib.Core.Bool.{Bool}
+use mathlib.Core.List.{List, [], _∷_, _++_}
+use native.Mathlib.Omega.{arith}
+use lib.ListN.{length, take}
+use lib.Seq.{length-take-le}
+use Rattle.channels.specs.declared.Lit.{Lit}
+use Rattle.channels.specs.Lit.{word, litAt, litOf}
+use Rattle.channels.proofs.Bits.{word-lt}
+use Rattle.ring.specs.declared.RingTable.{RingTable}
+use Rattle.form.specs.Form.{mapBytes, recordsBytes, portsBytes, formOf}
+use Rattle.form.proofs.Words.{low-byte}
+use Rattle.text.specs.Put.{Room, Put}
+use Rattle.encode.specs.Words.{lowFirst, wordsBytes}
+use Rattle.encode.proofs.Chain.{Putting, start, first, then, done}
+
+-- ---- the map is the bytes of the words
+
+map-word : (f : ℕ → Bool) (k p : ℕ) → mapBytes f k p ≡ lowFirst k (word f (8 * k) p)
+unfolding mapBytes lowFirst
+map-word f zero p = refl
+map-word f (suc k) p =
+    let e : 8 * suc k ≡ 8 + 8 * k = omega arith in
+    let l = word-lt f 8 p in
+    let m : word f (8 + 8 * k) p % 256 ≡ word f 8 p = omega (arith, low-byte f (8 * k) p) in
+    let d : word f (8 + 8 * k) p / 256 ≡ word f (8 * k) (8 + p) = omega (arith, low-byte f (8 * k) p) in
+    rw (e, m, d, map-word f k (8 + p))
+
+map-halves : (f : ℕ → Bool) → mapBytes f 16 0 ≡ mapBytes f 8 0 ++ mapBytes f 8 64
+unfolding mapBytes
+map-halves f = refl
+
+-- ---- the parts of the form
+
+-- the ports of the nodes are there, and as many as the nodes
+pub ports-there : (n : ℕ) (ks : List ℕ) → n ≤ 64 → length ks ≡ 64 → n ≤ length ks
+ports-there n ks h e = omega arith
+
+pub ports-count : (n : ℕ) (ks : List ℕ) → n ≤ 64 → length ks ≡ 64 → n ≡ length (take n ks)
+ports-count n ks h e = sym (length-take-le n ks (omega arith))
+
+module _ (t : RingTable) (lit : Lit) (e : lit ≡ litOf (t .channels)) (l : List ℕ) (h : Room l 0 (formOf t)) where
+  words-are : wordsBytes lit ≡ mapBytes (litAt (t .channels)) 16 0
+  unfolding wordsBytes
+  words-are = rw (map-halves (litAt (t .channels)), map-word (litAt (t .channels)) 8 0, map-word (litAt (t .channels)) 8 64, e)
+
+  form-begun : Putting l 0 (formOf t) l 0 (t .nodes ∷ []) (portsBytes t ∷ wordsBytes lit ∷ recordsBytes (t .channels) ∷ [])
+  unfolding formOf
+  form-begun = start _ _ (rw words-are) h
+
+  pub nodes-room : Room l 0 (t .nodes ∷ [])
+  nodes-room = first form-begun
+
+  module _ (l1 : List ℕ) (n1 : ℕ) (q1 : Put l 0 (t .nodes ∷ []) l1 n1) where
+    pub ports-room : Room l1 n1 (portsBytes t)
+    ports-room = first (then q1 form-begun)
+
+    module _ (l2 : List ℕ) (n2 : ℕ) (q2 : Put l1 n1 (portsBytes t) l2 n2) where
+      pub map-room : Room l2 n2 (wordsBytes lit)
+      map-room = first (then q2 (then q1 form-begun))
+
+      module _ (l3 : List ℕ) (n3 : ℕ) (q3 : Put l2 n2 (wordsBytes lit) l3 n3) where
+        pub records-room : Room l3 n3 (recordsBytes (t .channels))
+        records-room = first (then q3 (then q2 (then q1 form-begun)))
+
+        pub form-put : (l4 : List ℕ) (n4 : ℕ) → Put l3 n3 (recordsBytes (t .channels)) l4 n4 → Put l 0 (formOf t) l4 n4
+        form-put l4 n4 q4 = done q4 (then q3 (then q2 (then q1 form-begun)))
+
+pub ruleset formRules = (ports-there, ports-count, nodes-room, ports-room, map-room, records-room, form-put)

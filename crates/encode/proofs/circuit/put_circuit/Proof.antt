@@ -1,0 +1,34 @@
+-- `encode::circuit::put_circuit` meets its contract. Assumes nothing.
+use borrow.Author.Needs.{needs}
+use Rattle.encode.proofs.Circuits.{circuitRules}
+use Rattle.encode.proofs.circuit.put_circuit.Statement.{statement}
+use Rattle.encode.proofs.circuit.put_circuit.Tie as tie
+
+put-four-requires : tie.Need-put-four-requires
+put-four-requires c κs = search (needs, circuitRules)
+
+put-byte-requires : tie.Need-put-byte-requires
+put-byte-requires c κs = search (needs, circuitRules)
+
+put-byte-requires-2 : tie.Need-put-byte-requires-2
+put-byte-requires-2 c κs = search (needs, circuitRules)
+
+put-remark-requires : tie.Need-put-remark-requires
+put-remark-requires c κs = search (needs, circuitRules)
+
+same-length : tie.Need-same-length
+same-length c = search needs
+
+returns : tie.Need-returns
+returns c = search (needs, circuitRules)
+
+pub put-circuit-spec : {M : Type 1} → statement M
+put-circuit-spec =
+    tie.close
+    (tie.spec
+    put-four-requires
+    put-byte-requires
+    put-byte-requires-2
+    put-remark-requires
+    same-length
+    returns)

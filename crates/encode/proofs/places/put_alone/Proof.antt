@@ -1,0 +1,24 @@
+-- `encode::places::put_alone` meets its contract. Assumes nothing.
+use borrow.Author.Needs.{needs}
+use Rattle.encode.proofs.Records.{aloneRules}
+use Rattle.encode.proofs.places.put_alone.Statement.{statement}
+use Rattle.encode.proofs.places.put_alone.Tie as tie
+
+mark-requires : tie.Need-mark-requires
+mark-requires c κs = search needs
+
+put-byte-requires : tie.Need-put-byte-requires
+put-byte-requires c κs = search (needs, aloneRules)
+
+put-circuit-requires : tie.Need-put-circuit-requires
+put-circuit-requires c κs = search (needs, aloneRules)
+
+same-length : tie.Need-same-length
+same-length c = search needs
+
+returns : tie.Need-returns
+returns c = search (needs, aloneRules)
+
+pub put-alone-spec : {M : Type 1} → statement M
+put-alone-spec =
+    tie.close (tie.spec mark-requires put-byte-requires put-circuit-requires same-length returns)

@@ -1,0 +1,35 @@
+-- 01, "Saved form" and "Order": what writing answers, and what it leaves in the lent bytes. Assumes nothing.
+use Prim.Native.Nat.{ℕ}
+use mathlib.Core.Bool.{not}
+use mathlib.Core.List.{List, [], _∷_, _++_}
+use lib.Dec.{ltb}
+use lib.ListN.{length, drop}
+use Rattle.ring.specs.Table.{meetsRules}
+use Rattle.ring.specs.Refusal.{Cause, _if_, judged}
+use Rattle.ring.specs.declared.RingTable.{RingTable}
+use Rattle.ring.specs.declared.Refusal.the-variants.{ShortBuffer, BrokenRule}
+use Rattle.ring.specs.declared.Verdict.{Verdict}
+use Rattle.ring.specs.declared.Verdict.the-variants.{Granted as granted, Refused as refused}
+use Rattle.form.specs.Form.{formOf}
+use Rattle.encode.specs.declared.Written.{Written}
+use Rattle.encode.specs.declared.Written.the-variants.{Length, Refused}
+
+-- with n lent bytes: 22, 21
+abbrev pub writeCauses : RingTable → ℕ → List Cause
+writeCauses t n = (BrokenRule if not (meetsRules t)) ∷ (ShortBuffer if ltb n (length (formOf t))) ∷ []
+
+-- writing answers with the form's length
+abbrev pub writtenBy : RingTable → Verdict → Written
+writtenBy t granted = Length (length (formOf t))
+writtenBy t (refused r) = Refused r
+
+unfoldable pub writtenOf : RingTable → ℕ → Written
+writtenOf t n = writtenBy t (judged (writeCauses t n))
+
+-- and leaves the lent bytes after the form; on a refusal all of them
+abbrev pub lentBy : RingTable → List ℕ → Verdict → List ℕ
+lentBy t l granted = formOf t ++ drop (length (formOf t)) l
+lentBy t l (refused r) = l
+
+unfoldable pub lentAfter : RingTable → List ℕ → List ℕ
+lentAfter t l = lentBy t l (judged (writeCauses t (length l)))

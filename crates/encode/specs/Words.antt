@@ -1,0 +1,18 @@
+-- The map by its words: what writing makes of the lit places. Assumes nothing.
+use Prim.Native.Nat.{ℕ, zero, suc, _/_, _%_}
+use mathlib.Core.List.{List, [], _∷_, _++_}
+use Rattle.channels.specs.declared.Lit.{Lit}
+use Rattle.channels.specs.Lit.{countBelow, litBit}
+
+-- the k lowest bytes of w, lowest first
+unfoldable pub lowFirst : ℕ → ℕ → List ℕ
+lowFirst zero w = []
+lowFirst (suc k) w = w % 256 ∷ lowFirst k (w / 256)
+
+-- the words of the lit places, the low one first
+unfoldable pub wordsBytes : Lit → List ℕ
+wordsBytes lit = lowFirst 8 (lit .low) ++ lowFirst 8 (lit .high)
+
+-- their ones
+unfoldable pub onesOf : Lit → ℕ
+onesOf lit = countBelow 128 (litBit lit)

@@ -1,0 +1,58 @@
+// The length of a form.
+
+ghost use mathlib.Core.Path.{_≡_};
+ghost use Prim.Native.Nat.{_+_, _≤_};
+ghost use lib.ListN.{length};
+ghost use Rattle.basis.specs.Choice.{bit};
+ghost use Rattle.channels.specs.Slot.{isLit};
+ghost use Rattle.channels.specs.Lit.{litOf};
+ghost use Rattle.form.specs.Form.{circuitBytes, recordBytes, recordsBytes, formOf};
+ghost use Rattle.encode.specs.Words.{onesOf};
+use channels::Channel;
+use channels::Lit;
+use channels::Slot;
+use lightpath::Circuit;
+use ring::RingTable;
+
+// How many bytes a circuit takes.
+fn circuit_length(circuit: Circuit) -> usize
+    ensures { λ r. ⌜ (r ≡ length (circuitBytes circuit)) × (r ≤ 8) ⌝ }
+{
+    if circuit.remark == 0 {
+        return 6;
+    }
+    8
+}
+
+// How many bytes the circuits of a place take; its record is one longer where it is lit.
+fn slot_length(slot: Slot) -> usize
+    ensures { λ r. ⌜ (r + bit (isLit slot) ≡ length (recordBytes slot)) × (r ≤ 16) ⌝ }
+{
+    match slot {
+        Slot::Unlit => 0,
+        Slot::Alone(a) => circuit_length(a),
+        Slot::Shared(a, b) => circuit_length(a) + circuit_length(b),
+    }
+}
+
+// How many bytes all circuits take; the records are longer by the number of lit places.
+fn circuits_length(channels: [Channel; 128]) -> usize
+    ensures { λ r. ⌜ (r + onesOf (litOf channels) ≡ length (recordsBytes channels)) × (r ≤ 2048) ⌝ }
+{
+    let mut sum: usize = 0;
+    for place in 0..128 {
+        let channel = channels[place];
+        let slot = channel.slot;
+        sum += slot_length(slot);
+    }
+    sum
+}
+
+// The length of the form: the ones of the map count the records.
+pub fn form_length(table: RingTable, lit: Lit) -> usize
+    requires { ⌜ (table .nodes ≤ 64) × (lit ≡ litOf (table .channels)) ⌝ }
+    ensures { λ r. ⌜ r ≡ length (formOf table) ⌝ }
+{
+    let channels = table.channels;
+    17 + table.nodes as usize + lit.count() as usize + circuits_length(channels)
+}

@@ -1,0 +1,65 @@
+// Writes the saved form of a ring table into lent bytes.
+
+mod circuit;
+mod length;
+mod map;
+mod places;
+
+ghost use mathlib.Core.Path.{_≡_};
+ghost use mathlib.Core.Bool.{true};
+ghost use Prim.Native.Nat.{_≤_};
+ghost use lib.ListN.{length};
+ghost use Rattle.text.specs.Put.{Room, Put};
+ghost use Rattle.channels.specs.Lit.{litOf};
+ghost use Rattle.form.specs.Form.{formOf};
+ghost use Rattle.ring.specs.Table.{meetsRules};
+ghost use Rattle.encode.specs.Answer.{writtenOf, lentAfter};
+use channels::Lit;
+use ring::Refusal;
+use ring::RingTable;
+
+// The length of the form, or a refusal.
+pub enum Written {
+    Length(usize),
+    Refused(Refusal),
+}
+
+// Writes the form at the start of the lent bytes.
+fn put_form(out: &mut [u8], table: RingTable, lit: Lit) -> usize
+    requires { ⌜ Room (now out) 0 (formOf table) × (table .nodes ≤ 64) × (lit ≡ litOf (table .channels)) ⌝ }
+    ensures { λ r. ⌜ Put (now (out .entry)) 0 (formOf table) (now (out .exit)) r ⌝ }
+{
+    let nodes = table.nodes;
+    let ports = table.ports;
+    let channels = table.channels;
+    let start = circuit::put_byte(out, 0, nodes);
+    let map = text::put_text(out, start, &ports[..nodes as usize]);
+    let records = map::put_map(out, map, lit);
+    places::put_records(out, records, channels)
+}
+
+// Writes the form of a table that meets the ring rules.
+pub fn write_valid(table: RingTable, out: &mut [u8]) -> Written
+    requires { ⌜ meetsRules table ≡ true ⌝ }
+    ensures { λ r. ⌜ (r ≡ writtenOf table (length (now (out .entry)))) × (now (out .exit) ≡ lentAfter table (now (out .entry))) ⌝ }
+{
+    let channels = table.channels;
+    let lit = channels::lit_of(channels);
+    let length = length::form_length(table, lit);
+    if out.len() < length {
+        return Written::Refused(Refusal::ShortBuffer);
+    }
+    put_form(out, table, lit);
+    Written::Length(length)
+}
+
+// Writes the form of a table: 22 where it breaks a ring rule, 21 where the lent bytes are too few. The bytes after the form keep their
+// values, and on a refusal all do.
+pub fn write(table: RingTable, out: &mut [u8]) -> Written
+    ensures { λ r. ⌜ (r ≡ writtenOf table (length (now (out .entry)))) × (now (out .exit) ≡ lentAfter table (now (out .entry))) ⌝ }
+{
+    if !table.meets_rules() {
+        return Written::Refused(Refusal::BrokenRule);
+    }
+    write_valid(table, out)
+}
