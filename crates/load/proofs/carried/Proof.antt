@@ -1,0 +1,23 @@
+-- `load::carried` meets its contract. Assumes nothing.
+use borrow.Author.Needs.{needs}
+use Rattle.load.proofs.carried.Statement.{statement}
+use Rattle.load.proofs.carried.Tie as tie
+
+place-requires : tie.Need-place-requires
+place-requires c κs = search needs
+
+cast-slot-at : tie.Need-cast-slot-at
+cast-slot-at c = search needs
+
+slot-at-requires : tie.Need-slot-at-requires
+slot-at-requires c κs = search needs
+
+users-requires : tie.Need-users-requires
+users-requires c κs = search needs
+
+returns : tie.Need-returns
+returns c = rw (← c .before .before .before .place .ensures, ← c .before .slot-at .ensures) (c .users .ensures)
+
+pub carried-spec : {M : Type 1} → statement M
+carried-spec =
+    tie.close (tie.spec place-requires cast-slot-at slot-at-requires users-requires returns)

@@ -1,0 +1,47 @@
+-- `load::link_load` meets its contract. Assumes nothing.
+use Prim.Native.Nat.{_-_}
+use Rattle.load.proofs.Counted.{Counted, counting}
+use borrow.Author.Needs.{needs}
+use Rattle.load.proofs.link_load.Statement.{statement}
+use Rattle.load.proofs.link_load.Tie as tie
+
+abbrev Inv-loop : tie.InvT-loop
+Inv-loop nodes channels direction link sum₀ w₀ sum w = Counted nodes channels direction link w sum
+
+abbrev μ-loop : tie.MeasureT-loop
+μ-loop nodes channels direction link sum₀ w₀ sum w = 64 - w
+
+loop-holds : tie.Need-loop-holds Inv-loop μ-loop
+loop-holds c = search (needs, counting)
+
+carried-requires : tie.Need-carried-requires Inv-loop μ-loop
+carried-requires c κs = search (needs, counting)
+
+add-sum : tie.Need-add-sum Inv-loop μ-loop
+add-sum c = search (needs, counting)
+
+add-w : tie.Need-add-w Inv-loop μ-loop
+add-w c = search (needs, counting)
+
+loop-less : tie.Need-loop-less Inv-loop μ-loop
+loop-less c = search (needs, counting)
+
+loop-again : tie.Need-loop-again Inv-loop μ-loop
+loop-again c = search (needs, counting)
+
+returns : tie.Need-returns Inv-loop μ-loop
+returns c = search (needs, counting)
+
+pub link-load-spec : {M : Type 1} → statement M
+link-load-spec =
+    tie.close
+    (tie.spec
+    Inv-loop
+    μ-loop
+    loop-holds
+    carried-requires
+    add-sum
+    add-w
+    loop-less
+    loop-again
+    returns)
