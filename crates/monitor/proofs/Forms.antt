@@ -1,0 +1,69 @@
+-- The one-link question of a form that is accepted: at most one circuit at the place uses the link, and the answer is its number, or none
+-- where no circuit there uses it. Assumes nothing.
+use Prim.Native.Nat.{ℕ, _≤_, _<_}
+use mathlib.Core.Path.{_≡_, _∙_}
+use mathlib.Core.Bool.{true, false}
+use mathlib.Core.List.{List}
+use Rattle.basis.specs.Choice.{bit}
+use Rattle.basis.specs.Count.{weigh, All}
+use Rattle.lightpath.specs.Place.{sideOf, placeOf}
+use Rattle.lightpath.specs.Circuit.{uses}
+use Rattle.lightpath.specs.declared.Circuit.{Circuit}
+use Rattle.lightpath.specs.declared.Direction.{Direction}
+use Rattle.channels.specs.Slot.{held}
+use Rattle.channels.specs.Channels.{at}
+use Rattle.rules.specs.Ports.{wavelengths}
+use Rattle.ring.specs.Table.{meetsRules}
+use Rattle.ring.specs.declared.RingTable.{RingTable}
+use Rattle.ring.specs.declared.Answered.{Answered}
+use Rattle.ring.specs.declared.Refusal.{Refusal}
+use Rattle.ring.specs.declared.Verdict.the-variants.{Granted as granted, Refused as refused}
+use Rattle.form.specs.Reading.{readOf}
+use Rattle.form.proofs.Laws.{read-meets}
+use Rattle.monitor.specs.Link.{none, refusalOf, linkOf}
+use Rattle.monitor.specs.Question.{ringLink}
+use Rattle.monitor.proofs.Runs.{one-runs, answer-runs, answer-none}
+
+-- ---- the answer, from what was read
+
+module _ (form : List ℕ) (a : Answered) (e : a ≡ readOf form) where
+  -- a form that is accepted gives a table that meets the rules
+  pub accepted-meets : a .verdict ≡ granted → meetsRules (a .table) ≡ true
+  accepted-meets g = rw e (read-meets form (rw e at g))
+
+  -- its answer is the table's
+  pub accepted-link : (l w d r : ℕ) → a .verdict ≡ granted → r ≡ linkOf (a .table) l w d → r ≡ ringLink form l w d
+  unfolding ringLink
+  accepted-link l w d r g h = rw (← e, g) h
+
+  -- that of any other is the form's own refusal
+  pub form-refused : (l w d : ℕ) (x : Refusal) (r : ℕ) → a .verdict ≡ refused x → r ≡ refusalOf x → r ≡ ringLink form l w d
+  unfolding ringLink
+  form-refused l w d x r g h = rw (← e, g) h
+
+-- ---- which circuit it is
+
+module _ (form : List ℕ) (accepted : readOf form .verdict ≡ granted) (l w : ℕ) (d : Direction) (low : 1 ≤ l)
+    (high : l ≤ readOf form .table .nodes) (below : w < wavelengths (readOf form .table .ports)) where
+  abbrev t : RingTable
+  t = readOf form .table
+
+  abbrev there : List Circuit
+  there = held (at (t .channels) (placeOf w d))
+
+  -- it is answered as that of the table
+  same : ringLink form l w (sideOf d) ≡ linkOf t l w (sideOf d)
+  unfolding ringLink
+  same = rw accepted
+
+  -- at most one circuit there uses link l
+  pub form-one : weigh (λ c. bit (uses (t .nodes) d c l)) there ≤ 1
+  form-one = one-runs t (read-meets form accepted) l w d low high
+
+  -- the answer is the number of the one that does
+  pub form-runs : All (λ c. uses (t .nodes) d c l ≡ true → ringLink form l w (sideOf d) ≡ c .number) there
+  form-runs = rw same (answer-runs t (read-meets form accepted) l w d low high below)
+
+  -- and none where none does
+  pub form-none : All (λ c. uses (t .nodes) d c l ≡ false) there → ringLink form l w (sideOf d) ≡ none
+  form-none h = same ∙ answer-none t (read-meets form accepted) l w d low high below h

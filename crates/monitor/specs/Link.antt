@@ -1,0 +1,64 @@
+-- 01, "Load and link": the one-link question of a ring table: link l, wavelength w and direction d, each a number. It gives a 64-bit
+-- number: a circuit's number has 32 bits, and what stands above those is no circuit. Assumes nothing.
+use Prim.Native.Nat.{ℕ, _+_, _≤_, _<_}
+use mathlib.Core.Bool.{not}
+use mathlib.Core.List.{List, [], _∷_}
+use lib.Dec.{eqb, ltb}
+use Rattle.basis.specs.Choice.{pick}
+use Rattle.lightpath.specs.Place.{placeOf}
+use Rattle.lightpath.specs.Circuit.{onRing, uses}
+use Rattle.lightpath.specs.declared.Circuit.{Circuit}
+use Rattle.lightpath.specs.declared.Direction.{Direction}
+use Rattle.lightpath.specs.declared.Direction.the-variants.{Clockwise as clockwise, Counterclockwise as counterclockwise}
+use Rattle.channels.specs.Slot.{held}
+use Rattle.channels.specs.Channels.{at}
+use Rattle.rules.specs.Ports.{wavelengths}
+use Rattle.ring.specs.Refusal.{numberOf, Cause, _if_, judged}
+use Rattle.ring.specs.declared.RingTable.{RingTable}
+use Rattle.ring.specs.declared.Refusal.{Refusal}
+use Rattle.ring.specs.declared.Refusal.the-variants.{OffRing, NoWavelength, NoDirection}
+use Rattle.ring.specs.declared.Verdict.{Verdict}
+use Rattle.ring.specs.declared.Verdict.the-variants.{Granted as granted, Refused as refused}
+
+-- 4,294,967,296 for none
+abbrev pub none : ℕ
+none = 4294967296
+
+-- that plus the refusal number for a refusal
+abbrev pub refusalOf : Refusal → ℕ
+refusalOf r = none + numberOf r
+
+-- 0 clockwise, 1 counterclockwise
+abbrev pub way : ℕ → Direction
+way d = pick (eqb d 0) clockwise counterclockwise
+
+-- of the circuits of a place, lightpaths in direction d, the one that uses link l
+unfoldable pub running : ℕ → Direction → ℕ → List Circuit → ℕ
+running N d l [] = none
+running N d l (c ∷ cs) = pick (uses N d c l) (c .number) (running N d l cs)
+
+-- the circuit on link l, on wavelength w in direction d
+abbrev pub circuitOn : RingTable → ℕ → ℕ → Direction → ℕ
+circuitOn t l w d = running (t .nodes) d l (held (at (t .channels) (placeOf w d)))
+
+-- link not 1 to N, wavelength not below W, direction neither 0 nor 1: 10, 16, 17
+abbrev pub linkCauses : RingTable → ℕ → ℕ → ℕ → List Cause
+linkCauses t l w d =
+    (OffRing if not (onRing (t .nodes) l)) ∷ (NoWavelength if not (ltb w (wavelengths (t .ports)))) ∷ (NoDirection if not (ltb d 2)) ∷ []
+
+unfoldable pub linkVerdict : RingTable → ℕ → ℕ → ℕ → Verdict
+linkVerdict t l w d = judged (linkCauses t l w d)
+
+abbrev pub linkBy : RingTable → ℕ → ℕ → ℕ → Verdict → ℕ
+linkBy t l w d granted = circuitOn t l w (way d)
+linkBy t l w d (refused r) = refusalOf r
+
+unfoldable pub linkOf : RingTable → ℕ → ℕ → ℕ → ℕ
+linkOf t l w d = linkBy t l w d (linkVerdict t l w d)
+
+-- the numbers of a question that is not refused, on a ring that meets the rules
+pub record Asked (t : RingTable) (l w d : ℕ) : Type 0 where
+  pub low : 1 ≤ l
+  pub high : l ≤ t .nodes
+  pub below : w < wavelengths (t .ports)
+  pub few : wavelengths (t .ports) ≤ 64

@@ -1,0 +1,16 @@
+-- 01, "Load and link": the one-link question takes a saved form. It is refused for the form's own causes, then for those of the link, the
+-- wavelength and the direction. Assumes nothing.
+use Prim.Native.Nat.{ℕ}
+use mathlib.Core.List.{List}
+use Rattle.form.specs.Reading.{readOf}
+use Rattle.ring.specs.declared.RingTable.{RingTable}
+use Rattle.ring.specs.declared.Verdict.{Verdict}
+use Rattle.ring.specs.declared.Verdict.the-variants.{Granted as granted, Refused as refused}
+use Rattle.monitor.specs.Link.{refusalOf, linkOf}
+
+abbrev pub askedBy : RingTable → ℕ → ℕ → ℕ → Verdict → ℕ
+askedBy t l w d granted = linkOf t l w d
+askedBy t l w d (refused r) = refusalOf r
+
+unfoldable pub ringLink : List ℕ → ℕ → ℕ → ℕ → ℕ
+ringLink form l w d = askedBy (readOf form .table) l w d (readOf form .verdict)
