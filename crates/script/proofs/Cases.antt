@@ -1,0 +1,79 @@
+-- Scripts and what they print by the definitions: document 01's own, and those at the borders of its words. Assumes nothing.
+use Prim.Native.Nat.{ℕ}
+use Prim.Native.String.{String}
+use mathlib.Core.Path.{_≡_, refl}
+use mathlib.Core.List.{List, [], _∷_, _++_, map}
+use lib.ListN.{replicate}
+use Rattle.lightpath.specs.Circuit.{ahead}
+use Rattle.assign.specs.Assigned.{assignedOf}
+use Rattle.ring.specs.Making.{makeOf}
+use Rattle.ring.specs.Opening.{decideOf}
+use Rattle.ring.specs.Closing.{closeOf}
+use Rattle.text.specs.Bytes.{bytes}
+use Rattle.text.specs.Decimal.{digitsUpTo, decimal}
+use Rattle.text.specs.Number.{numberAfter, number}
+use Rattle.line.specs.Words.{wordsAfter}
+use Rattle.line.specs.Line.{field, portsAfter, parseRing, parseOpen, parseClose, parseWords, parseLine}
+use Rattle.script.specs.Answers.{piece, moveLine}
+use Rattle.script.specs.Desk.{runRing, runOpen, runClose}
+use Rattle.script.specs.Script.{linesAfter, linesText, scriptText}
+
+-- lines, each with its line end
+abbrev lines : List String → List ℕ
+lines [] = []
+lines (s ∷ ss) = bytes s ++ (10 ∷ lines ss)
+
+-- document 01's script, and its output
+abbrev script : List String
+script =
+    "ring 5 1 1 1 1 1"
+    ∷ "open 11 1 5 0"
+    ∷ "open 12 2 3 0"
+    ∷ "open 13 4 1 0"
+    ∷ "open 14 3 2 0"
+    ∷ "open 15 5 4 0"
+    ∷ "open 16 1 2 0"
+    ∷ "close 13"
+    ∷ "open 16 4 1 0"
+    ∷ []
+
+abbrev output : List String
+output =
+    "ring 5 wavelengths 2"
+    ∷ "open 11 place 0 moves 0 looks 0"
+    ∷ "open 12 place 1 moves 0 looks 0"
+    ∷ "open 13 place 2 moves 0 looks 0"
+    ∷ "open 14 place 3 moves 0 looks 0"
+    ∷ "open 15 place 2 moves 3 looks 2"
+    ∷ "move 12 from 1 to 0"
+    ∷ "move 11 from 0 to 1"
+    ∷ "move 13 from 2 to 1"
+    ∷ "open 16 refused 13"
+    ∷ "close 13"
+    ∷ "open 16 place 1 moves 0 looks 0"
+    ∷ []
+
+abbrev cases : List (List ℕ × List ℕ)
+cases =
+    (lines script, lines output)
+    -- no line, and lines with nothing in them
+    ∷ (bytes "", bytes "")
+    ∷ (bytes "\n\n", bytes "line refused\nline refused\n")
+    -- a last line without its end is run like any other
+    ∷ (bytes "ring 3 1 1 1", bytes "ring 3 wavelengths 1\n")
+    ∷ (bytes "ring 3 1 1 1\nclose 7", bytes "ring 3 wavelengths 1\nclose refused 15\n")
+    -- before the first accepted ring
+    ∷ (bytes "open 1 1 2 0\nclose 1\nring 2 1 1\nopen 1 1 2 0\n", bytes "line refused\nline refused\nring refused 1\nline refused\n")
+    -- a refused ring keeps the old table, and an accepted one takes its place
+    ∷ (bytes "ring 3 1 1 1\nopen 1 1 2 0\nring 3 65 1 1\nclose 1\n", bytes "ring 3 wavelengths 1\nopen 1 place 0 moves 0 looks 0\nring refused 2\nclose 1\n")
+    ∷ (bytes "ring 3 1 1 1\nopen 1 1 2 0\nring 3 1 1 1\nclose 1\n", bytes "ring 3 wavelengths 1\nopen 1 place 0 moves 0 looks 0\nring 3 wavelengths 1\nclose refused 15\n")
+    -- leading zeros are read and not printed
+    ∷ (bytes "ring 003 01 001 1\nopen 0007 1 2 0\n", bytes "ring 3 wavelengths 1\nopen 7 place 0 moves 0 looks 0\n")
+    -- a line over 256 bytes is one refused line, and the next is run
+    ∷ (replicate 600 48 ++ bytes "\nring 3 1 1 1\n", bytes "line refused\nring 3 wavelengths 1\n")
+    ∷ []
+
+-- each script prints what the table says
+pub cases-printed : map (λ c. scriptText (c .0)) cases ≡ map (λ c. c .1) cases
+unfolding scriptText linesText linesAfter runRing runOpen runClose piece moveLine parseLine parseWords parseRing parseOpen parseClose portsAfter field wordsAfter number numberAfter decimal digitsUpTo makeOf decideOf closeOf assignedOf ahead
+cases-printed = refl

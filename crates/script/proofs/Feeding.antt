@@ -1,0 +1,134 @@
+-- Bytes taken in, one after another. Assumes nothing.
+use Prim.Native.Nat.{ℕ, _+_, _*_, _≤_, _<_}
+use mathlib.Core.Path.{_≡_, refl, sym, ap, _∙_}
+use mathlib.Core.List.{List, [], _∷_, _++_, append-nil}
+use native.Mathlib.Omega.{arith}
+use native.Mathlib.Numerals.{add-one}
+use lib.ListN.{length, take, getD, set, length-append, length-set}
+use lib.Seq.{take-suc-set, take-all, take-at, length-take-le}
+use borrow.Author.Tests.{ne-eqb}
+use Rattle.text.specs.Put.{Put}
+use Rattle.text.proofs.Put.{put-none, put-put, put-length}
+use Rattle.script.specs.Answers.{Printed}
+use Rattle.script.specs.Desk.{Desk, Ran, Standing, runLine, answerRoom, Runs, Ended}
+use Rattle.script.specs.Bytes.{Script, Session, Fed, byteAfter, byteText, after, texts, endText, startSession, scriptOf, Sound, Took}
+use Rattle.script.proofs.Cuts.{after-more, texts-more}
+
+-- ---- the bytes of a line that has not ended, lent
+
+module _ (line : List ℕ) (held : ℕ) (w : length line ≡ 257) (f : held ≤ 257) where
+  pub held-within : held ≤ length line
+  held-within = omega (arith, w)
+
+  pub held-counted : held ≡ length (take held line)
+  held-counted = sym (length-take-le held line held-within)
+
+-- ---- bytes as they come
+
+-- before the first byte no ring was accepted
+pub start-sound : (s : Session) → s ≡ startSession → Sound s
+start-sound s e = rw e (record { held = omega arith; desk = λ h. let z : _≡_ {A = ℕ} 0 1 = cc in absurd (omega arith) })
+
+-- the script of a desk and of the first bytes of a line
+abbrev pub scriptAt : Desk → List ℕ → ℕ → Script
+scriptAt d line held = record { desk = d; held = take held line }
+
+-- of the chunk the first i bytes are taken in, and what they print stands in the lent bytes up to position at
+pub record Feeding (s : Script) (chunk l0 : List ℕ) (d : Desk) (line : List ℕ) (held : ℕ) (l : List ℕ) (at i : ℕ) : Type 0 where
+  pub state : scriptAt d line held ≡ after s (take i chunk)
+  pub text : Printed (answerRoom * i) l0 0 (texts s (take i chunk)) l at
+  pub within : i ≤ length chunk
+  pub width : length line ≡ 257
+  pub few : held ≤ 257
+  pub standing : Standing d
+  pub space : answerRoom * length chunk ≤ length l0
+
+pub feed-none : (s : Session) (chunk l0 : List ℕ) → Sound s → length (s .line) ≡ 257 → answerRoom * length chunk ≤ length l0
+    → Feeding (scriptOf s) chunk l0 (s .desk) (s .line) (s .held) l0 0 0
+unfolding after texts
+feed-none s chunk l0 f w h =
+    record { state = refl; text = record { put = put-none; short = omega arith }; within = omega arith; width = w; few = f .held; standing = f .desk; space = h }
+
+module _ (s : Script) (chunk l0 : List ℕ) (d : Desk) (line : List ℕ) (held : ℕ) (l : List ℕ) (at i : ℕ) (q : Feeding s chunk l0 d line held l at i) where
+  pub feed-few : held ≤ 257
+  feed-few = q .few
+
+  pub feed-long : length l ≡ length l0
+  feed-long = put-length (q .text .put)
+
+  module _ (h : i < length chunk) where
+    pub feed-runs : Runs d l at
+    feed-runs = record { standing = q .standing; room = omega (arith, q .text .short, q .space, put-length (q .text .put)) }
+
+    -- a line end
+    pub feed-line : (l1 : List ℕ) (r : Ran) → getD chunk i 0 ≡ 10 → Ended (runLine d (take held line)) l at l1 r
+        → Feeding s chunk l0 (r .desk) line 0 l1 (r .next) (i + 1)
+    feed-line l1 r e m =
+        record {
+          state = sym (after-more s chunk i h ∙ rw (← q .state, e, m .desk));
+          text =
+              record {
+                put = rw (texts-more s chunk i h, ← q .state, e) (put-put (q .text .put) (m .text .put));
+                short = omega (arith, q .text .short, m .text .short);
+              };
+          within = omega arith;
+          width = q .width;
+          few = omega arith;
+          standing = m .standing;
+          space = q .space;
+        }
+
+    -- another byte, with which the line held is as given
+    other : (line′ : List ℕ) (held′ : ℕ) → (getD chunk i 0 ≡ 10 → ⊥) → take 257 (take held line ++ (getD chunk i 0 ∷ [])) ≡ take held′ line′ → length line′ ≡ 257 → held′ ≤ 257
+        → Feeding s chunk l0 d line′ held′ l at (i + 1)
+    other line′ held′ n e w f =
+        record {
+          state = sym (after-more s chunk i h ∙ rw (← q .state, ne-eqb (getD chunk i 0) 10 n, e));
+          text =
+              record {
+                put = rw (texts-more s chunk i h, ← q .state, ne-eqb (getD chunk i 0) 10 n, append-nil) (q .text .put);
+                short = omega (arith, q .text .short);
+              };
+          within = omega arith;
+          width = w;
+          few = f;
+          standing = q .standing;
+          space = q .space;
+        }
+
+    pub feed-hold : (getD chunk i 0 ≡ 10 → ⊥) → held < 257 → Feeding s chunk l0 d (set line held (getD chunk i 0)) (held + 1) l at (i + 1)
+    feed-hold n f =
+        let c : held < length line = omega (arith, q .width) in
+        let z : take (held + 1) (set line held (getD chunk i 0)) ≡ take held line ++ (getD chunk i 0 ∷ []) = rw add-one (take-suc-set line held (getD chunk i 0) c) in
+        let k : length (take held line ++ (getD chunk i 0 ∷ [])) ≤ 257 = omega (arith, length-append (take held line) (getD chunk i 0 ∷ []), held-counted line held (q .width) (q .few)) in
+        other (set line held (getD chunk i 0)) (held + 1) n (take-all 257 (take held line ++ (getD chunk i 0 ∷ [])) k ∙ sym z) (simp length-set (q .width)) (omega arith)
+
+    -- 257 bytes are held already
+    pub feed-drop : (getD chunk i 0 ≡ 10 → ⊥) → 257 ≤ held → Feeding s chunk l0 d line held l at (i + 1)
+    feed-drop n f =
+        let e : length (take held line) ≡ 257 = omega (arith, q .few, held-counted line held (q .width) (q .few)) in
+        other line held n (take-at (take held line) (getD chunk i 0 ∷ []) 257 e) (q .width) (q .few)
+
+  pub feed-all : (s0 : Session) → scriptOf s0 ≡ s → length chunk ≤ i → Took s0 chunk l0 l (record { session = record { desk = d; line = line; held = held }; wrote = at })
+  feed-all s0 e h =
+      let k : take i chunk ≡ chunk = take-all i chunk h in
+      record {
+        state = rw e (q .state ∙ rw k);
+        text = rw e (record { put = rw k at (q .text .put); short = omega (arith, q .text .short, q .within) });
+        sound = record { held = q .few; desk = q .standing };
+      }
+
+pub ruleset feeding = (feed-none, feed-few, feed-long, held-within, held-counted, feed-runs, feed-line, feed-hold, feed-drop)
+
+-- ---- the end of the input
+
+module _ (s : Session) (l : List ℕ) where
+  pub end-none : s .held ≡ 0 → Printed answerRoom l 0 (endText (scriptOf s)) l 0
+  end-none h = rw h (record { put = put-none; short = omega arith })
+
+  pub end-line : (l′ : List ℕ) (r : Fed) → Sound s → length (s .line) ≡ 257 → (s .held ≡ 0 → ⊥) → Took s (10 ∷ []) l l′ r → Printed answerRoom l 0 (endText (scriptOf s)) l′ (r .wrote)
+  unfolding texts
+  end-line l′ r f w n m =
+      rw (ne-eqb (length (take (s .held) (s .line))) 0 (λ e. n (held-counted (s .line) (s .held) w (f .held) ∙ e)), ← append-nil (runLine (s .desk) (take (s .held) (s .line)) .text)) (m .text)
+
+pub ruleset ending = (end-none, end-line)

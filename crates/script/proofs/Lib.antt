@@ -1,0 +1,6 @@
+pub mod Printing
+pub mod Running
+pub mod Cuts
+pub mod Feeding
+pub mod Whole
+pub mod Cases

@@ -1,0 +1,58 @@
+-- `script::print::put_ring` meets its contract. Assumes nothing.
+use borrow.Author.Needs.{needs}
+use Rattle.script.proofs.Printing.{lines}
+use Rattle.script.proofs.print.put_ring.Statement.{statement}
+use Rattle.script.proofs.print.put_ring.Tie as tie
+
+enum-told : tie.Need-enum-told
+enum-told c = search needs
+
+slice-aggregate-put-piece : tie.Need-slice-aggregate-put-piece
+slice-aggregate-put-piece c = search needs
+
+put-piece-requires : tie.Need-put-piece-requires
+put-piece-requires c κs = search needs
+
+slice-aggregate-put-last : tie.Need-slice-aggregate-put-last
+slice-aggregate-put-last c = search needs
+
+put-last-requires : tie.Need-put-last-requires
+put-last-requires c κs = search needs
+
+enum-known-verdict : tie.Need-enum-known-verdict
+enum-known-verdict c = search needs
+
+slice-aggregate-put-refusal : tie.Need-slice-aggregate-put-refusal
+slice-aggregate-put-refusal c = search needs
+
+put-refusal-requires : tie.Need-put-refusal-requires
+put-refusal-requires c κs = search needs
+
+same-length : tie.Need-same-length
+same-length c = search needs
+
+returns : tie.Need-returns
+returns c = record { put = search lines; short = search needs }
+
+same-length-2 : tie.Need-same-length-2
+same-length-2 c = search needs
+
+returns-2 : tie.Need-returns-2
+returns-2 c = record { put = search lines; short = search needs }
+
+pub put-ring-spec : {M : Type 1} → statement M
+put-ring-spec =
+    tie.close
+    (tie.spec
+    enum-told
+    slice-aggregate-put-piece
+    put-piece-requires
+    slice-aggregate-put-last
+    put-last-requires
+    enum-known-verdict
+    slice-aggregate-put-refusal
+    put-refusal-requires
+    same-length
+    returns
+    same-length-2
+    returns-2)

@@ -1,0 +1,61 @@
+-- What is printed to a request: document 01, "The script program and its cases". Assumes nothing.
+use Prim.Native.Nat.{ℕ, _+_, _≤_}
+use Prim.Native.String.{String}
+use mathlib.Core.List.{List, [], _∷_, _++_}
+use Rattle.moves.specs.declared.Move.{Move}
+use Rattle.ring.specs.Refusal.{numberOf}
+use Rattle.ring.specs.declared.Verdict.{Verdict}
+use Rattle.ring.specs.declared.Verdict.the-variants.{Granted as granted, Refused as refused}
+use Rattle.ring.specs.declared.Opening.{Opening}
+use Rattle.ring.specs.declared.Opening.the-variants.{Taken as taken, Refused as notOpened}
+use Rattle.text.specs.Bytes.{bytes}
+use Rattle.text.specs.Decimal.{decimal}
+use Rattle.text.specs.Put.{Put}
+
+-- ---- a line of text
+
+-- words and a number after them
+unfoldable pub piece : List ℕ → ℕ → List ℕ
+piece words n = words ++ decimal n
+
+-- a line: words, each with a number after them, and the line end
+abbrev pub lineOf : List (String × ℕ) → List ℕ
+lineOf [] = bytes "\n"
+lineOf (p ∷ ps) = piece (bytes (p .0)) (p .1) ++ lineOf ps
+
+-- ---- the answers
+
+-- `line refused`
+abbrev pub lineRefused : List ℕ
+lineRefused = bytes "line refused\n"
+
+-- `ring N wavelengths W`, or `ring refused 1`
+abbrev pub ringLine : ℕ → ℕ → Verdict → List ℕ
+ringLine n w granted = lineOf (("ring ", n) ∷ (" wavelengths ", w) ∷ [])
+ringLine n w (refused r) = lineOf (("ring refused ", numberOf r) ∷ [])
+
+-- `close 13`, or `close refused 15`
+abbrev pub closeLine : ℕ → Verdict → List ℕ
+closeLine n granted = lineOf (("close ", n) ∷ [])
+closeLine n (refused r) = lineOf (("close refused ", numberOf r) ∷ [])
+
+-- `open 11 place 0 moves 0 looks 0`, or `open 16 refused 13`
+abbrev pub openLine : ℕ → Opening → List ℕ
+openLine n (taken p k looks) = lineOf (("open ", n) ∷ (" place ", p .0) ∷ (" moves ", k) ∷ (" looks ", looks) ∷ [])
+openLine n (notOpened r) = lineOf (("open ", n) ∷ (" refused ", numberOf r) ∷ [])
+
+-- "move lines give number, old place, new place"
+unfoldable pub moveLine : Move → List ℕ
+moveLine m = lineOf (("move ", m .number) ∷ (" from ", m .from .0) ∷ (" to ", m .to .0) ∷ [])
+
+-- a line for each move, in their order
+abbrev pub moveLines : List Move → List ℕ
+moveLines [] = []
+moveLines (m ∷ ms) = moveLine m ++ moveLines ms
+
+-- ---- printing
+
+-- of the lent bytes l, l′ has the text from position at on and is else the same; the text takes at most so many bytes
+pub record Printed (most : ℕ) (l : List ℕ) (at : ℕ) (text : List ℕ) (l′ : List ℕ) (next : ℕ) : Type 0 where
+  pub put : Put l at text l′ next
+  pub short : next ≤ at + most

@@ -1,0 +1,62 @@
+-- A script's bytes as they come: the state between two reads, and what a read does and prints. Assumes nothing.
+use Prim.Native.Nat.{ℕ, _+_, _*_, _≤_}
+use mathlib.Core.Path.{_≡_}
+use mathlib.Core.List.{List, [], _∷_, _++_}
+use lib.Dec.{eqb}
+use lib.ListN.{length, take, replicate}
+use Rattle.basis.specs.Choice.{pick}
+use Rattle.script.specs.Answers.{Printed}
+use Rattle.script.specs.Desk.{Desk, emptyDesk, Standing, runLine, answerRoom}
+pub use Rattle.script.specs.declared.Session.{Session}
+pub use Rattle.script.specs.declared.Fed.{Fed}
+
+-- the desk, and the bytes of a line that has not ended
+pub record Script : Type 0 where
+  pub desk : Desk
+  pub held : List ℕ
+
+-- one byte: a line end runs the line held, and any other is held; 257 bytes are enough to see that a line is too long
+abbrev pub byteAfter : Script → ℕ → Script
+byteAfter s x = pick (eqb x 10) (record { desk = runLine (s .desk) (s .held) .desk; held = [] }) (record { desk = s .desk; held = take 257 (s .held ++ (x ∷ [])) })
+
+abbrev pub byteText : Script → ℕ → List ℕ
+byteText s x = pick (eqb x 10) (runLine (s .desk) (s .held) .text) []
+
+-- the script after some bytes, and what they print
+unfoldable pub after : Script → List ℕ → Script
+after s [] = s
+after s (x ∷ xs) = after (byteAfter s x) xs
+
+unfoldable pub texts : Script → List ℕ → List ℕ
+texts s [] = []
+texts s (x ∷ xs) = byteText s x ++ texts (byteAfter s x) xs
+
+-- what the end of the input prints: a line that is held is run like any other
+abbrev pub endText : Script → List ℕ
+endText s = pick (eqb (length (s .held)) 0) [] (runLine (s .desk) (s .held) .text)
+
+-- what reads print one after another, and the end of the input after them
+unfoldable pub readsText : Script → List (List ℕ) → List ℕ
+readsText s [] = endText s
+readsText s (chunk ∷ chunks) = texts s chunk ++ readsText (after s chunk) chunks
+
+-- ---- a session
+
+-- the session before the first byte
+abbrev pub startSession : Session
+startSession = record { desk = emptyDesk; line = replicate 257 0; held = 0 }
+
+-- the script that a session is: of its line the first bytes are held
+abbrev pub scriptOf : Session → Script
+scriptOf s = record { desk = s .desk; held = take (s .held) (s .line) }
+
+-- a session that holds at most 257 bytes, at a desk whose table meets the ring rules
+pub record Sound (s : Session) : Type 0 where
+  pub held : s .held ≤ 257
+  pub desk : Standing (s .desk)
+
+-- bytes were taken in: the session is the script after them, and what they print stands at the start of the lent bytes
+pub record Took (s : Session) (chunk l l′ : List ℕ) (r : Fed) : Type 0 where
+  pub state : scriptOf (r .session) ≡ after (scriptOf s) chunk
+  pub text : Printed (answerRoom * length chunk) l 0 (texts (scriptOf s) chunk) l′ (r .wrote)
+  pub sound : Sound (r .session)

@@ -1,0 +1,4 @@
+pub mod Answers
+pub mod Desk
+pub mod Script
+pub mod Bytes

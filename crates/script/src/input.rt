@@ -1,0 +1,70 @@
+// A script's bytes as they come: lines end at LF, over any reads.
+ghost use mathlib.Core.Path.{_≡_};
+ghost use Prim.Native.Nat.{_*_, _≤_};
+ghost use lib.ListN.{length};
+ghost use Rattle.script.specs.Answers.{Printed};
+ghost use Rattle.script.specs.Desk.{answerRoom};
+ghost use Rattle.script.specs.Bytes.{Sound, Took, startSession, scriptOf, endText};
+use crate::Desk;
+use crate::Fed;
+use crate::Session;
+use crate::run;
+use ring::RingTable;
+
+// Before the first byte: no ring was accepted, and no byte is held.
+pub fn start() -> Session
+    ensures { λ r. ⌜ r ≡ startSession ⌝ }
+{
+    Session {
+        desk: Desk {
+            ready: false,
+            table: RingTable::blank(),
+        },
+        line: [0; 257],
+        held: 0,
+    }
+}
+
+// Takes bytes in, and writes what they print at the start of the lent bytes.
+pub fn feed(session: Session, chunk: &[u8], out: &mut [u8]) -> Fed
+    requires { ⌜ Sound session × (answerRoom * length (now chunk) ≤ length (now out)) ⌝ }
+    ensures { λ r. ⌜ Took session (now (chunk .entry)) (now (out .entry)) (now (out .exit)) r ⌝ }
+{
+    let mut desk = session.desk;
+    let mut line = session.line;
+    let mut held = session.held;
+    let mut at: usize = 0;
+    let mut i: usize = 0;
+    while i < chunk.len() {
+        let byte = chunk[i];
+        i += 1;
+        if byte == b'\n' {
+            let ran = run::run_line(desk, &line[..held], out, at);
+            desk = ran.desk;
+            at = ran.next;
+            held = 0;
+            continue;
+        }
+        if held < 257 {
+            line[held] = byte;
+            held += 1;
+            continue;
+        }
+    }
+    Fed {
+        session: Session { desk, line, held },
+        wrote: at,
+    }
+}
+
+// The end of the input ends a line that is held. Gives how many bytes were written at the start of the lent bytes.
+pub fn finish(session: Session, out: &mut [u8]) -> usize
+    requires { ⌜ Sound session × (answerRoom ≤ length (now out)) ⌝ }
+    ensures { λ r. ⌜ Printed answerRoom (now (out .entry)) 0 (endText (scriptOf session)) (now (out .exit)) r ⌝ }
+{
+    if session.held == 0 {
+        return 0;
+    }
+    let fed = feed(session, b"\n", out);
+    fed.wrote
+}
