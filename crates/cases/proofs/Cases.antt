@@ -1,0 +1,29 @@
+-- Every case of the table holds: its answers are computed at once, and one law takes that to each case. Assumes nothing.
+use mathlib.Core.Path.{_≡_, refl}
+use mathlib.Core.List.{List, [], _∷_, map}
+use Rattle.basis.specs.Count.{All}
+use Rattle.lightpath.specs.Circuit.{ahead}
+use Rattle.channels.specs.Lit.{word}
+use Rattle.moves.specs.Lent.{written}
+use Rattle.assign.specs.Assigned.{assignedOf}
+use Rattle.ring.specs.Making.{makeOf}
+use Rattle.ring.specs.Opening.{decideOf}
+use Rattle.ring.specs.Closing.{closeOf}
+use Rattle.form.specs.Bytes.{twoBytes, fourBytes}
+use Rattle.form.specs.Form.{mapBytes, fieldMap, remarkBytes, circuitBytes, recordBytes, recordsBytes, formOf}
+use Rattle.cases.specs.Case.{Case, answerTo, Holds}
+use Rattle.cases.specs.Table.{cases}
+
+-- where the answers to a list of cases are those expected, each case holds
+each : (cs : List Case) → map (λ c. answerTo (c .asked)) cs ≡ map (λ c. c .expected) cs → All Holds cs
+each [] e = tt
+each (c ∷ cs) e = ((cc), each cs (cc))
+
+-- the answers to the table's, computed
+computed : map (λ c. answerTo (c .asked)) cases ≡ map (λ c. c .expected) cases
+unfolding ahead word makeOf decideOf closeOf assignedOf written formOf mapBytes recordsBytes recordBytes fieldMap circuitBytes fourBytes twoBytes remarkBytes
+computed = refl
+
+-- so each of its cases holds
+pub cases-hold : All Holds cases
+cases-hold = each cases computed

@@ -1,0 +1,98 @@
+-- Cases by kind: what is asked, and what the definitions answer. Assumes nothing.
+use Prim.Native.Nat.{ℕ, _+_}
+use mathlib.Core.Path.{_≡_}
+use mathlib.Core.List.{List, [], _∷_, _++_}
+use lib.ListN.{length, getD}
+use Rattle.basis.specs.Choice.{pick}
+use Rattle.basis.specs.Count.{total}
+use Rattle.lightpath.specs.declared.Direction.{Direction}
+use Rattle.lightpath.specs.declared.Direction.the-variants.{Clockwise as clockwise, Counterclockwise as counterclockwise}
+use Rattle.lightpath.specs.declared.Circuit.{Circuit}
+use Rattle.lightpath.specs.Circuit.{hops, adjacent, canShare}
+use Rattle.moves.specs.declared.Move.{Move}
+use Rattle.moves.specs.Lent.{blanks}
+use Rattle.rules.specs.Ports.{wavelengths}
+use Rattle.ring.specs.declared.RingTable.{RingTable}
+use Rattle.ring.specs.declared.Verdict.{Verdict}
+use Rattle.ring.specs.declared.Verdict.the-variants.{Granted as granted, Refused as notGranted}
+use Rattle.ring.specs.declared.Opening.{Opening}
+use Rattle.ring.specs.declared.Opening.the-variants.{Taken as taken, Refused as notTaken}
+use Rattle.ring.specs.Refusal.{numberOf}
+use Rattle.ring.specs.Making.{makeOf}
+use Rattle.ring.specs.Opening.{openOf, lentAfter}
+use Rattle.ring.specs.Closing.{closeOf}
+use Rattle.form.specs.Form.{formOf}
+
+-- what a case asks
+pub data Question : Type 0 where
+  -- two circuits on a ring of N nodes
+  pair : ℕ → Circuit → Circuit → Question
+  -- port counts
+  ports : List ℕ → Question
+  -- a ring of N nodes made with some port counts
+  making : ℕ → List ℕ → Question
+  -- a circuit opened on a table, three blank records lent
+  opening : RingTable → Circuit → Question
+  -- a circuit closed by its number
+  closing : RingTable → ℕ → Question
+  -- a table saved
+  saving : RingTable → Question
+
+-- what it expects
+pub data Answer : Type 0 where
+  -- the total of the hops of an adjacent pair, and the directions in which it can share
+  shares : ℕ → List Direction → Answer
+  notAdjacent : Answer
+  -- K and W
+  dimensions : ℕ → ℕ → Answer
+  -- the table after a making or a closing
+  done : RingTable → Answer
+  -- place, moves and looks of an opening, with the lent list and the table after it
+  opened : ℕ → ℕ → ℕ → List Move → RingTable → Answer
+  -- the length of a form, and byte 0 of its map
+  saved : ℕ → ℕ → Answer
+  -- the number of a refusal, and the table after it
+  refused : ℕ → RingTable → Answer
+
+-- a question and the answer to it
+pub record Case : Type 0 where
+  pub asked : Question
+  pub expected : Answer
+
+infix 70 _gives_
+-- asked q, the answer is to be a
+abbrev pub _gives_ : Question → Answer → Case
+q gives a = record { asked = q; expected = a }
+
+-- the directions in which two circuits can share
+abbrev pub directions : ℕ → Circuit → Circuit → List Direction
+directions N a b =
+    pick (canShare N clockwise a b) (clockwise ∷ []) []
+    ++ pick (canShare N counterclockwise a b) (counterclockwise ∷ []) []
+
+-- the answer to a making or a closing, by its verdict
+abbrev pub verdictGives : RingTable → Verdict → Answer
+verdictGives t granted = done t
+verdictGives t (notGranted r) = refused (numberOf r) t
+
+-- the answer to an opening
+abbrev pub openingGives : List Move → RingTable → Opening → Answer
+openingGives lent t (taken p k looks) = opened (p .0) k looks lent t
+openingGives lent t (notTaken r) = refused (numberOf r) t
+
+-- the map of a form stands after N and the ports
+abbrev pub mapStart : RingTable → ℕ
+mapStart t = 1 + t .nodes
+
+-- what the definitions answer
+abbrev pub answerTo : Question → Answer
+answerTo (pair N a b) = pick (adjacent a b) (shares (hops N a + hops N b) (directions N a b)) notAdjacent
+answerTo (ports ks) = dimensions (total ks) (wavelengths ks)
+answerTo (making N ks) = verdictGives (makeOf N ks .table) (makeOf N ks .verdict)
+answerTo (opening t c) = openingGives (lentAfter t c blanks) (openOf t c blanks .table) (openOf t c blanks .answer)
+answerTo (closing t n) = verdictGives (closeOf t n .table) (closeOf t n .verdict)
+answerTo (saving t) = saved (length (formOf t)) (getD (formOf t) (mapStart t) 0)
+
+-- a case holds when that is what it expects
+abbrev pub Holds : Case → Type 0
+Holds c = answerTo (c .asked) ≡ c .expected

@@ -1,0 +1,3 @@
+-- Kinds of cases, then the table of them.
+pub mod Case
+pub mod Table

@@ -1,0 +1,118 @@
+-- The cases that document 01 marks P, and its script request by request, in one table. Assumes nothing.
+use Prim.Native.Nat.{ℕ, _-_}
+use mathlib.Core.List.{List, [], _∷_, _++_, map}
+use lib.ListN.{length, replicate}
+use Rattle.lightpath.specs.declared.Direction.the-variants.{Clockwise as clockwise, Counterclockwise as counterclockwise}
+use Rattle.lightpath.specs.declared.Circuit.{Circuit}
+use Rattle.channels.specs.declared.Slot.{Slot}
+use Rattle.channels.specs.declared.Slot.the-variants.{Alone as alone, Shared as shared}
+use Rattle.channels.specs.Channels.{unlitChannel}
+use Rattle.moves.specs.declared.Move.{Move}
+use Rattle.moves.specs.Lent.{blanks}
+use Rattle.ring.specs.declared.RingTable.{RingTable}
+use Rattle.ring.specs.Table.{blankTable}
+use Rattle.cases.specs.Case.{pair, ports, making, opening, closing, saving, shares, notAdjacent, dimensions, done, opened, saved, refused, Case, _gives_}
+
+-- a circuit without a remark: number, source, destination
+abbrev circuit : ℕ → ℕ → ℕ → Circuit
+circuit n s d = record { number = n; source = s; destination = d; remark = 0 }
+
+infix 20 _⟶_
+-- one whose number does not matter
+abbrev _⟶_ : ℕ → ℕ → Circuit
+s ⟶ d = circuit 0 s d
+
+-- number, old place, new place
+abbrev move : ℕ → ℕ → ℕ → Move
+move n p q = record { number = n; from = record { 0 = p }; to = record { 0 = q } }
+
+-- a ring of N nodes with the port counts ks; its lowest places hold u, the others nothing
+abbrev ring : ℕ → List ℕ → List Slot → RingTable
+ring N ks u = record {
+  nodes = N;
+  ports = ks ++ replicate (64 - length ks) 0;
+  channels = map (λ s. record { slot = s }) u ++ replicate (128 - length u) unlitChannel;
+}
+
+-- the ring of document 01's script
+abbrev ring5 : List Slot → RingTable
+ring5 u = ring 5 (replicate 5 1) u
+
+-- its circuits
+abbrev c11 : Circuit
+c11 = circuit 11 1 5
+
+abbrev c12 : Circuit
+c12 = circuit 12 2 3
+
+abbrev c13 : Circuit
+c13 = circuit 13 4 1
+
+abbrev c14 : Circuit
+c14 = circuit 14 3 2
+
+abbrev c15 : Circuit
+c15 = circuit 15 5 4
+
+abbrev c16 : Circuit
+c16 = circuit 16 4 1
+
+-- its tables, each named by the request before it
+abbrev made : RingTable
+made = ring5 []
+
+abbrev opened11 : RingTable
+opened11 = ring5 (alone c11 ∷ [])
+
+abbrev opened12 : RingTable
+opened12 = ring5 (alone c11 ∷ alone c12 ∷ [])
+
+abbrev opened13 : RingTable
+opened13 = ring5 (alone c11 ∷ alone c12 ∷ alone c13 ∷ [])
+
+abbrev opened14 : RingTable
+opened14 = ring5 (alone c11 ∷ alone c12 ∷ alone c13 ∷ alone c14 ∷ [])
+
+abbrev opened15 : RingTable
+opened15 = ring5 (alone c12 ∷ shared c11 c13 ∷ alone c15 ∷ alone c14 ∷ [])
+
+abbrev closed13 : RingTable
+closed13 = ring5 (alone c12 ∷ alone c11 ∷ alone c15 ∷ alone c14 ∷ [])
+
+abbrev opened16 : RingTable
+opened16 = ring5 (alone c12 ∷ shared c11 c16 ∷ alone c15 ∷ alone c14 ∷ [])
+
+-- what is asked, and what document 01 says to it
+abbrev pub cases : List Case
+cases =
+    -- two circuits, N = 5
+    pair 5 (1 ⟶ 4) (4 ⟶ 2) gives shares 6 (counterclockwise ∷ [])
+    ∷ pair 5 (1 ⟶ 3) (3 ⟶ 4) gives shares 3 (clockwise ∷ [])
+    ∷ pair 5 (2 ⟶ 3) (3 ⟶ 2) gives shares 5 (clockwise ∷ [])
+    ∷ pair 5 (1 ⟶ 3) (2 ⟶ 3) gives notAdjacent
+    -- K and W
+    ∷ ports (1 ∷ 1 ∷ 1 ∷ 1 ∷ 1 ∷ []) gives dimensions 5 2
+    ∷ ports (2 ∷ 1 ∷ 1 ∷ 1 ∷ 1 ∷ []) gives dimensions 6 2
+    ∷ ports (2 ∷ 1 ∷ 2 ∷ 1 ∷ 1 ∷ []) gives dimensions 7 3
+    ∷ ports (0 ∷ 0 ∷ 0 ∷ 0 ∷ 0 ∷ []) gives dimensions 0 0
+    -- circuit 11 alone
+    ∷ saving opened11 gives saved 29 1
+    -- N from 3 to 64
+    ∷ making 2 (replicate 2 1) gives refused 1 blankTable
+    ∷ making 3 (replicate 3 1) gives done (ring 3 (replicate 3 1) [])
+    ∷ making 64 (replicate 64 1) gives done (ring 64 (replicate 64 1) [])
+    ∷ making 65 (replicate 65 1) gives refused 1 blankTable
+    -- K at most 192
+    ∷ making 4 (64 ∷ 64 ∷ 64 ∷ 0 ∷ []) gives done (ring 4 (64 ∷ 64 ∷ 64 ∷ 0 ∷ []) [])
+    ∷ making 4 (64 ∷ 64 ∷ 64 ∷ 1 ∷ []) gives refused 3 blankTable
+    -- the script
+    ∷ making 5 (1 ∷ 1 ∷ 1 ∷ 1 ∷ 1 ∷ []) gives done made
+    ∷ opening made c11 gives opened 0 0 0 blanks opened11
+    ∷ opening opened11 c12 gives opened 1 0 0 blanks opened12
+    ∷ opening opened12 c13 gives opened 2 0 0 blanks opened13
+    ∷ opening opened13 c14 gives opened 3 0 0 blanks opened14
+    ∷ opening opened14 c15 gives opened 2 3 2 (move 12 1 0 ∷ move 11 0 1 ∷ move 13 2 1 ∷ []) opened15
+    ∷ opening opened15 (circuit 16 1 2) gives refused 13 opened15
+    ∷ closing opened15 13 gives done closed13
+    ∷ opening closed13 c16 gives opened 1 0 0 blanks opened16
+    ∷ []
