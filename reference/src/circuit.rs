@@ -1,0 +1,106 @@
+//! A circuit: its hops, its links, and with which others it can share.
+
+use crate::place::Direction;
+
+#[derive(Clone, Copy, PartialEq, Eq, Debug, Default)]
+pub struct Circuit {
+    pub number: u32,
+    pub source: u8,
+    pub destination: u8,
+    /// 0 for none.
+    pub remark: u16,
+}
+
+impl Circuit {
+    /// The links from source clockwise to destination; both ends must be on the ring.
+    pub fn hops(self, nodes: u8) -> u8 {
+        (self.destination + nodes - self.source) % nodes
+    }
+
+    /// Whether the destination of one is the source of the other.
+    pub fn is_adjacent_to(self, other: Circuit) -> bool {
+        self.destination == other.source || other.destination == self.source
+    }
+
+    /// The direction in which an adjacent pair can share; a total of exactly N is clockwise.
+    pub fn sharing_direction(self, other: Circuit, nodes: u8) -> Direction {
+        if self.hops(nodes) + other.hops(nodes) <= nodes {
+            Direction::Clockwise
+        } else {
+            Direction::Counterclockwise
+        }
+    }
+
+    pub fn can_share(self, other: Circuit, direction: Direction, nodes: u8) -> bool {
+        self.is_adjacent_to(other) && self.sharing_direction(other, nodes) == direction
+    }
+
+    /// Whether the circuit, set up in this direction, runs over the link.
+    pub fn uses_link(self, link: u8, direction: Direction, nodes: u8) -> bool {
+        let links_past_source = (link + nodes - self.source) % nodes;
+        let clockwise = links_past_source < self.hops(nodes);
+        clockwise == (direction == Direction::Clockwise)
+    }
+}
+
+#[cfg(test)]
+mod tests {
+    use super::*;
+    use Direction::{Clockwise, Counterclockwise};
+
+    fn circuit(source: u8, destination: u8) -> Circuit {
+        Circuit { source, destination, ..Circuit::default() }
+    }
+
+    #[test]
+    fn pairs_of_document_01() {
+        assert_eq!(circuit(1, 4).sharing_direction(circuit(4, 2), 5), Counterclockwise);
+        assert_eq!(circuit(1, 3).sharing_direction(circuit(3, 4), 5), Clockwise);
+        assert_eq!(circuit(2, 3).sharing_direction(circuit(3, 2), 5), Clockwise);
+        assert!(circuit(1, 4).is_adjacent_to(circuit(4, 2)));
+        assert!(circuit(4, 2).is_adjacent_to(circuit(1, 4)));
+        assert!(!circuit(1, 3).is_adjacent_to(circuit(2, 3)));
+    }
+
+    #[test]
+    fn hops_run_clockwise_through_the_last_link() {
+        assert_eq!(circuit(1, 5).hops(5), 4);
+        assert_eq!(circuit(5, 1).hops(5), 1);
+        assert_eq!(circuit(64, 63).hops(64), 63);
+    }
+
+    #[test]
+    fn each_link_is_used_in_one_direction() {
+        let links = |direction| {
+            (1..=5).filter(|&link| circuit(4, 1).uses_link(link, direction, 5)).collect::<Vec<u8>>()
+        };
+        assert_eq!(links(Clockwise), [4, 5]);
+        assert_eq!(links(Counterclockwise), [1, 2, 3]);
+    }
+
+    #[test]
+    fn an_adjacent_pair_has_no_link_in_common_where_it_can_share() {
+        for nodes in 3..=9 {
+            for (a, b) in adjacent_pairs(nodes) {
+                let direction = a.sharing_direction(b, nodes);
+                let common = |&link: &u8| {
+                    a.uses_link(link, direction, nodes) && b.uses_link(link, direction, nodes)
+                };
+                assert_eq!((1..=nodes).find(common), None, "{a:?} {b:?} on {nodes} nodes");
+            }
+        }
+    }
+
+    fn adjacent_pairs(nodes: u8) -> Vec<(Circuit, Circuit)> {
+        let mut circuits = Vec::new();
+        for source in 1..=nodes {
+            circuits
+                .extend((1..=nodes).filter(|&end| end != source).map(|end| circuit(source, end)));
+        }
+        let mut pairs = Vec::new();
+        for &a in &circuits {
+            pairs.extend(circuits.iter().filter(|b| a.is_adjacent_to(**b)).map(|&b| (a, b)));
+        }
+        pairs
+    }
+}

@@ -1,0 +1,164 @@
+//! Comparing a script program's output, byte for byte, with the second controller's.
+
+use std::fmt;
+use std::io::{self, Read, Write};
+use std::path::Path;
+use std::process::{Child, Command, ExitStatus, Stdio};
+use std::thread;
+
+use crate::coverage::Coverage;
+use crate::script::{self, Desk};
+
+/// What the second controller answers to a script.
+pub struct Expected {
+    pub output: Vec<u8>,
+    pub coverage: Coverage,
+    lines: Vec<Line>,
+}
+
+/// A line of the script, and where its answer ends in the output.
+struct Line {
+    text: Vec<u8>,
+    answer_end: usize,
+}
+
+impl Expected {
+    /// Runs the script at a desk that checks the ring rules at every opening and closing.
+    pub fn of(script: &[u8]) -> Expected {
+        let mut desk = Desk::checking_rules();
+        let mut coverage = Coverage::default();
+        let mut output = Vec::new();
+        let mut lines = Vec::new();
+        let all_run = script::for_each_line(&mut &script[..], |line| {
+            coverage.run_line(&mut desk, line).write(&mut output)?;
+            lines.push(Line { text: line.to_vec(), answer_end: output.len() });
+            Ok(())
+        });
+        all_run.expect("reading and writing in memory do not fail");
+        Expected { output, coverage, lines }
+    }
+
+    /// The first line that the other output answers otherwise.
+    pub fn first_difference(&self, other: &[u8]) -> Option<Difference> {
+        if self.output == other {
+            return None;
+        }
+        let same = self.output.iter().zip(other).take_while(|(a, b)| a == b).count();
+        let index = self.lines.partition_point(|line| line.answer_end <= same);
+        let start = if index == 0 { 0 } else { self.lines[index - 1].answer_end };
+        let (text, answer) = match self.lines.get(index) {
+            Some(line) => (line.text.clone(), &self.output[start..line.answer_end]),
+            None => (Vec::new(), &[][..]),
+        };
+        let answer_lines = answer.iter().filter(|&&byte| byte == b'\n').count().max(1);
+        Some(Difference {
+            line_number: index + 1,
+            line: text,
+            reference: answer.to_vec(),
+            program: first_lines(&other[start..], answer_lines).to_vec(),
+        })
+    }
+}
+
+/// The first so many lines, with their line ends.
+fn first_lines(output: &[u8], count: usize) -> &[u8] {
+    let ends = output.iter().enumerate().filter(|(_, &byte)| byte == b'\n');
+    match ends.map(|(at, _)| at + 1).nth(count - 1) {
+        Some(end) => &output[..end],
+        None => output,
+    }
+}
+
+/// A line answered otherwise; after the script's last line, what is printed too much.
+#[derive(Clone, PartialEq, Eq, Debug)]
+pub struct Difference {
+    pub line_number: usize,
+    pub line: Vec<u8>,
+    pub reference: Vec<u8>,
+    pub program: Vec<u8>,
+}
+
+impl fmt::Display for Difference {
+    fn fmt(&self, f: &mut fmt::Formatter) -> fmt::Result {
+        writeln!(f, "line {}: {}", self.line_number, self.line.escape_ascii())?;
+        write_answer(f, "reference", &self.reference)?;
+        write_answer(f, "program", &self.program)
+    }
+}
+
+fn write_answer(f: &mut fmt::Formatter, who: &str, answer: &[u8]) -> fmt::Result {
+    if answer.is_empty() {
+        writeln!(f, "  {who}: no more output")?;
+    }
+    for line in answer.split_inclusive(|&byte| byte == b'\n') {
+        let text = line.strip_suffix(b"\n").unwrap_or(line);
+        let end = if text.len() == line.len() { " (no line end)" } else { "" };
+        writeln!(f, "  {who}: {}{end}", text.escape_ascii())?;
+    }
+    Ok(())
+}
+
+/// Runs the program on the script; its output is read no further than `most` bytes.
+pub fn run_program(
+    program: &Path,
+    script: &[u8],
+    most: usize,
+) -> io::Result<(Vec<u8>, ExitStatus)> {
+    let mut child = Command::new(program).stdin(Stdio::piped()).stdout(Stdio::piped()).spawn()?;
+    let mut input = child.stdin.take().expect("the child's input is piped");
+    let output = thread::scope(|scope| {
+        // A thread of its own, as the program may answer before it has read all.
+        scope.spawn(move || {
+            // A program that stops reading shows in its output.
+            let _ = input.write_all(script);
+        });
+        read_output(&mut child, most)
+    })?;
+    Ok((output, child.wait()?))
+}
+
+fn read_output(child: &mut Child, most: usize) -> io::Result<Vec<u8>> {
+    let mut output = Vec::new();
+    let pipe = child.stdout.take().expect("the child's output is piped");
+    pipe.take(most as u64).read_to_end(&mut output)?;
+    if output.len() == most {
+        child.kill()?;
+    }
+    Ok(output)
+}
+
+#[cfg(test)]
+mod tests {
+    use super::*;
+
+    const SCRIPT: &[u8] = b"ring 3 1 1 1\nopen 1 1 2 0\nclose 2\n";
+
+    fn difference(program: &str) -> Option<Difference> {
+        Expected::of(SCRIPT).first_difference(program.as_bytes())
+    }
+
+    #[test]
+    fn equal_output_has_no_difference() {
+        let equal = "ring 3 wavelengths 1\nopen 1 place 0 moves 0 looks 0\nclose refused 15\n";
+        assert_eq!(difference(equal), None);
+    }
+
+    #[test]
+    fn a_changed_answer_is_shown_with_its_line() {
+        let changed = "ring 3 wavelengths 1\nopen 1 place 0 moves 0 looks 1\nclose refused 15\n";
+        let found = difference(changed).unwrap();
+        assert_eq!((found.line_number, &found.line[..]), (2, &b"open 1 1 2 0"[..]));
+        assert_eq!(found.reference, b"open 1 place 0 moves 0 looks 0\n");
+        assert_eq!(found.program, b"open 1 place 0 moves 0 looks 1\n");
+    }
+
+    #[test]
+    fn missing_and_additional_output_are_differences() {
+        let cut = difference("ring 3 wavelengths 1\n").unwrap();
+        assert_eq!((cut.line_number, &cut.program[..]), (2, &b""[..]));
+        let more = "ring 3 wavelengths 1\nopen 1 place 0 moves 0 looks 0\nclose refused 15\nmore\n";
+        let more = difference(more).unwrap();
+        assert_eq!((more.line_number, &more.program[..]), (4, &b"more\n"[..]));
+        assert_eq!(more.reference, b"");
+    }
+}

@@ -1,0 +1,183 @@
+//! Long scripts from a seed, made to reach every step and every refusal often.
+//! A desk of the second controller runs along, so that the next line knows what is live.
+
+mod bad_lines;
+mod rings;
+mod traffic;
+
+use crate::random::Random;
+use crate::script::{Desk, Request, LINE_MOST};
+use crate::table::Table;
+
+use rings::Shape;
+use traffic::Tide;
+
+#[derive(Clone, Copy, PartialEq, Eq, Debug)]
+pub enum Kind {
+    /// Rings of 3 to 8 nodes with few ports, each for a short while.
+    Small,
+    /// Rings of 64 nodes with 192 ports, near capacity.
+    Large,
+    /// Small, large and middling rings in turn.
+    Mixed,
+    /// One ring with few circuits and few faults.
+    Light,
+}
+
+impl Kind {
+    pub fn named(name: &str) -> Option<Kind> {
+        match name {
+            "small" => Some(Kind::Small),
+            "large" => Some(Kind::Large),
+            "mixed" => Some(Kind::Mixed),
+            "light" => Some(Kind::Light),
+            _ => None,
+        }
+    }
+
+    /// How often, in a thousand lines, other lines than plain traffic come.
+    fn odds(self) -> Odds {
+        match self {
+            Kind::Small | Kind::Mixed => Odds { bad_line: 60, bad_ring: 15, bad_request: 100 },
+            Kind::Large => Odds { bad_line: 15, bad_ring: 3, bad_request: 40 },
+            Kind::Light => Odds { bad_line: 2, bad_ring: 1, bad_request: 5 },
+        }
+    }
+}
+
+struct Odds {
+    bad_line: usize,
+    bad_ring: usize,
+    bad_request: usize,
+}
+
+/// A whole script; the last line of some has no line end.
+pub fn script(kind: Kind, seed: u64, lines: u64) -> Vec<u8> {
+    let mut generator = Generator::new(kind, seed);
+    let mut script = Vec::new();
+    for _ in 0..lines {
+        script.extend(generator.next_line());
+        script.push(b'\n');
+    }
+    let last_is_empty = script.ends_with(b"\n\n") || script == b"\n";
+    if seed % 4 == 3 && !last_is_empty {
+        script.pop();
+    }
+    script
+}
+
+pub struct Generator {
+    kind: Kind,
+    random: Random,
+    desk: Desk,
+    tide: Tide,
+    lines_left_on_ring: usize,
+}
+
+impl Generator {
+    pub fn new(kind: Kind, seed: u64) -> Generator {
+        Generator {
+            kind,
+            random: Random::new(seed),
+            desk: Desk::new(),
+            tide: Tide::default(),
+            lines_left_on_ring: 0,
+        }
+    }
+
+    /// The next line, without its line end.
+    pub fn next_line(&mut self) -> Vec<u8> {
+        let line = self.choose_line();
+        self.desk.run_line(&line);
+        line
+    }
+
+    fn choose_line(&mut self) -> Vec<u8> {
+        let Odds { bad_line, bad_ring, bad_request } = self.kind.odds();
+        let draw = self.random.below(1000);
+        if draw < bad_line {
+            return self.bad_line();
+        }
+        if draw < bad_line + bad_ring {
+            let request = rings::refused(&mut self.random);
+            return self.dressed(&request);
+        }
+        let request = if draw < bad_line + bad_ring + bad_request {
+            self.bad_request()
+        } else {
+            self.plain_request()
+        };
+        self.dressed(&request)
+    }
+
+    /// A request that is mostly served: traffic, or a new ring when the old has had its time.
+    fn plain_request(&mut self) -> Request {
+        match self.desk.table() {
+            Some(table) if self.lines_left_on_ring > 0 => {
+                self.lines_left_on_ring -= 1;
+                self.tide.request(table, &mut self.random)
+            }
+            None if self.kind != Kind::Light && self.random.percent(60) => self.bad_request(),
+            _ => self.new_ring(),
+        }
+    }
+
+    /// A request that is mostly refused, by what the table holds.
+    fn bad_request(&mut self) -> Request {
+        let before_any_ring = Table::blank();
+        let table = self.desk.table().unwrap_or(&before_any_ring);
+        traffic::refused(table, &mut self.random)
+    }
+
+    fn new_ring(&mut self) -> Request {
+        let shape = Shape::choose(self.kind, &mut self.random);
+        let ports = shape.ports(&mut self.random);
+        let ring_ports = ports.iter().map(|&count| usize::from(count)).sum();
+        self.lines_left_on_ring = shape.stay(self.kind, &mut self.random);
+        self.tide = Tide::choose(shape, ring_ports, &mut self.random);
+        rings::request(ports)
+    }
+
+    /// The request as a line, now and then with leading zeros or filled up to 256 bytes.
+    fn dressed(&mut self, request: &Request) -> Vec<u8> {
+        let mut line = plain(request);
+        if self.kind == Kind::Light {
+            return line;
+        }
+        if self.random.percent(5) {
+            let zeros = self.random.between(1, 4);
+            self.insert_zeros(&mut line, zeros);
+        } else if self.random.below(400) == 0 {
+            self.fill_with_zeros(&mut line, LINE_MOST);
+        }
+        line
+    }
+
+    fn fill_with_zeros(&mut self, line: &mut Vec<u8>, length: usize) {
+        self.insert_zeros(line, length.saturating_sub(line.len()));
+    }
+
+    /// Puts zeros before one of the line's numbers.
+    fn insert_zeros(&mut self, line: &mut Vec<u8>, zeros: usize) {
+        let spaces: Vec<usize> = (0..line.len()).filter(|&at| line[at] == b' ').collect();
+        let at = *self.random.pick(&spaces) + 1;
+        line.splice(at..at, std::iter::repeat_n(b'0', zeros));
+    }
+}
+
+/// The request as a line, without leading zeros.
+fn plain(request: &Request) -> Vec<u8> {
+    let text = match request {
+        Request::Ring { nodes, ports } => {
+            let mut text = format!("ring {nodes}");
+            ports.iter().for_each(|count| text.push_str(&format!(" {count}")));
+            text
+        }
+        Request::Open(circuit) => format!(
+            "open {} {} {} {}",
+            circuit.number, circuit.source, circuit.destination, circuit.remark
+        ),
+        Request::Close(number) => format!("close {number}"),
+    };
+    text.into_bytes()
+}

@@ -1,0 +1,280 @@
+//! Openings and closings on the ring in force, served and refused ones.
+
+use super::rings::Shape;
+use crate::circuit::Circuit;
+use crate::opening::{Move, MOVES_MOST};
+use crate::random::Random;
+use crate::script::Request;
+use crate::table::{wavelengths_for, Channel, Lightpath, Table, NODES_MOST};
+
+/// Openings looked at before one is asked for.
+const TRIES: usize = 24;
+
+/// How the circuits of a ring grow in number and fall between two marks.
+#[derive(Default)]
+pub struct Tide {
+    rising: bool,
+    /// Circuits at which the tide turns to fall.
+    high: usize,
+    /// Circuits at which it turns to rise again.
+    low: usize,
+    /// Whether to keep off sharing, so that places run out before ports.
+    spreads: bool,
+    /// Whether half of the nodes only send or only receive, so that searches are long.
+    apart: bool,
+}
+
+impl Tide {
+    /// A tide for a ring with so many ports.
+    pub fn choose(shape: Shape, ports: usize, random: &mut Random) -> Tide {
+        let plain = Tide { rising: true, high: ports, ..Tide::default() };
+        if shape == Shape::Light {
+            return Tide { high: ports / 5, low: ports / 10, ..plain };
+        }
+        if random.percent(25) {
+            return Tide { low: random.between(ports / 2, ports), ..plain };
+        }
+        // With hardly any sharing, all places are lit from 2 × W circuits on.
+        let places = 2 * wavelengths_for(ports as u32) as usize;
+        let apart = random.percent(25);
+        let most = if apart { places + ports / 12 } else { ports };
+        Tide {
+            high: random.between(places.min(most), most),
+            low: places.saturating_sub(random.below(3)),
+            spreads: true,
+            apart,
+            ..plain
+        }
+    }
+
+    /// The next opening or closing.
+    pub fn request(&mut self, table: &Table, random: &mut Random) -> Request {
+        let live = table.circuits().count();
+        if live >= self.high {
+            self.rising = false;
+        } else if live <= self.low {
+            self.rising = true;
+        }
+        let opens = random.percent(if self.rising { 85 } else { 25 });
+        if opens {
+            match self.opening(table, random) {
+                Some(circuit) => return Request::Open(circuit),
+                None => self.rising = false,
+            }
+        }
+        Request::Close(self.closing(table, random))
+    }
+
+    /// An opening with both ports free, if one is found: the first, or the one worth most.
+    fn opening(&self, table: &Table, random: &mut Random) -> Option<Circuit> {
+        let (sources, destinations) = self.free_ends(table)?;
+        let wanted = if self.spreads { random.between(1, 2) } else { 0 };
+        let mut best = None;
+        for _ in 0..TRIES {
+            let circuit = Circuit {
+                number: free_number(table, random),
+                source: *random.pick(&sources),
+                destination: *random.pick(&destinations),
+                remark: remark(random),
+            };
+            if circuit.source == circuit.destination {
+                continue;
+            }
+            let worth = if self.spreads { worth(table, circuit) } else { 0 };
+            if best.is_none_or(|(most, _)| worth > most) {
+                best = Some((worth, circuit));
+            }
+            if worth >= wanted {
+                break;
+            }
+        }
+        best.map(|(_, circuit)| circuit)
+    }
+
+    /// The nodes with a free transmitter and those with a free receiver, if there are both.
+    fn free_ends(&self, table: &Table) -> Option<(Vec<u8>, Vec<u8>)> {
+        let ports = Ports::of(table);
+        let mut sources = ports.nodes(|node| ports.free_transmitters[node] > 0);
+        let mut destinations = ports.nodes(|node| ports.free_receivers[node] > 0);
+        if sources.is_empty() || destinations.is_empty() {
+            return None;
+        }
+        if self.apart {
+            keep_apart(table.nodes / 4, &mut sources, &mut destinations);
+        }
+        Some((sources, destinations))
+    }
+
+    /// A live number, rather one of two at a place if the circuits are to spread.
+    fn closing(&self, table: &Table, random: &mut Random) -> u32 {
+        if self.spreads && random.percent(97) {
+            let shared: Vec<u32> = table.channels.iter().flat_map(numbers_sharing).collect();
+            if let Some(number) = some_of(&shared, random) {
+                return number;
+            }
+        }
+        live_number(table, random).unwrap_or_else(|| number(random))
+    }
+}
+
+/// Leaves the ways from the first quarter of the nodes to the second, if there are some,
+/// and then those within the other half.
+fn keep_apart(quarter: u8, sources: &mut Vec<u8>, destinations: &mut Vec<u8>) {
+    let sends = |&node: &u8| node <= quarter;
+    let receives = |&node: &u8| node > quarter && node <= 2 * quarter;
+    let does_both = |&node: &u8| node > 2 * quarter;
+    if sources.iter().any(sends) && destinations.iter().any(receives) {
+        sources.retain(sends);
+        destinations.retain(receives);
+    } else if sources.iter().any(does_both) && destinations.iter().any(does_both) {
+        sources.retain(does_both);
+        destinations.retain(does_both);
+    }
+}
+
+fn numbers_sharing(channel: &Channel) -> Vec<u32> {
+    match channel {
+        Channel::Two(first, second) => vec![first.number, second.number],
+        _ => Vec::new(),
+    }
+}
+
+/// How rare the opening is: 0 by step 1, 2 for two moves, 1 for all others.
+fn worth(table: &Table, circuit: Circuit) -> usize {
+    let joins = |old: Lightpath| circuit.can_share(old.circuit, old.place.direction(), table.nodes);
+    if table.nonsharing().any(joins) {
+        return 0;
+    }
+    let mut moves = [Move::default(); MOVES_MOST];
+    match table.clone().open_on_good_table(circuit, &mut moves) {
+        Ok(opening) if opening.moves == 2 => 2,
+        _ => 1,
+    }
+}
+
+/// An opening or closing that is refused, or at least a likely one.
+pub fn refused(table: &Table, random: &mut Random) -> Request {
+    let live = live_number(table, random);
+    let mut circuit = Circuit {
+        number: free_number(table, random),
+        source: any_node(table, random),
+        destination: any_node(table, random),
+        remark: remark(random),
+    };
+    let ports = Ports::of(table);
+    match random.below(8) {
+        0 => circuit.source = off_ring(table, random),
+        1 => circuit.destination = off_ring(table, random),
+        2 => circuit.destination = circuit.source,
+        3 => circuit.number = live.unwrap_or(circuit.number),
+        4 => {
+            let full = ports.nodes(|node| ports.free_transmitters[node] == 0);
+            circuit.source = some_of(&full, random).unwrap_or(circuit.source);
+        }
+        5 => {
+            let free = ports.nodes(|node| ports.free_transmitters[node] > 0);
+            let full = ports.nodes(|node| ports.free_receivers[node] == 0);
+            circuit.source = some_of(&free, random).unwrap_or(circuit.source);
+            circuit.destination = some_of(&full, random).unwrap_or(circuit.destination);
+        }
+        6 => return Request::Close(free_number(table, random)),
+        _ => several_faults(&mut circuit, table, live, random),
+    }
+    Request::Open(circuit)
+}
+
+/// More than one fault at once, for the order in which they are named.
+fn several_faults(circuit: &mut Circuit, table: &Table, live: Option<u32>, random: &mut Random) {
+    if random.percent(60) {
+        circuit.number = live.unwrap_or(circuit.number);
+    }
+    if random.percent(40) {
+        circuit.destination = circuit.source;
+    }
+    if random.percent(30) {
+        circuit.source = off_ring(table, random);
+    }
+    if random.percent(20) {
+        circuit.destination = circuit.source;
+    }
+}
+
+/// The free ports of each node of a ring; node 0 is no node.
+struct Ports {
+    nodes: u8,
+    free_transmitters: [u32; NODES_MOST as usize + 1],
+    free_receivers: [u32; NODES_MOST as usize + 1],
+}
+
+impl Ports {
+    fn of(table: &Table) -> Ports {
+        let mut free = [0; NODES_MOST as usize + 1];
+        for node in 1..=table.nodes {
+            free[usize::from(node)] = table.ports_at(node);
+        }
+        let mut ports = Ports { nodes: table.nodes, free_transmitters: free, free_receivers: free };
+        for circuit in table.circuits() {
+            ports.free_transmitters[usize::from(circuit.source)] -= 1;
+            ports.free_receivers[usize::from(circuit.destination)] -= 1;
+        }
+        ports
+    }
+
+    fn nodes(&self, wanted: impl Fn(usize) -> bool) -> Vec<u8> {
+        (1..=self.nodes).filter(|&node| wanted(usize::from(node))).collect()
+    }
+}
+
+fn some_of<T: Copy>(items: &[T], random: &mut Random) -> Option<T> {
+    if items.is_empty() {
+        None
+    } else {
+        Some(*random.pick(items))
+    }
+}
+
+fn any_node(table: &Table, random: &mut Random) -> u8 {
+    random.between(1, usize::from(table.nodes).max(1)) as u8
+}
+
+fn off_ring(table: &Table, random: &mut Random) -> u8 {
+    let above = usize::from(table.nodes) + 1;
+    match random.below(4) {
+        0 => 0,
+        1 => above as u8,
+        2 => 255,
+        _ => random.between(above, 255) as u8,
+    }
+}
+
+fn remark(random: &mut Random) -> u16 {
+    match random.below(8) {
+        0 => u16::MAX,
+        1 | 2 => random.between(1, usize::from(u16::MAX)) as u16,
+        _ => 0,
+    }
+}
+
+/// Small numbers mostly, so that numbers come again, but every size of number.
+fn number(random: &mut Random) -> u32 {
+    match random.below(16) {
+        0 => 0,
+        1 => u32::MAX - random.below(3) as u32,
+        2..=5 => random.draw() as u32,
+        _ => random.below(600) as u32,
+    }
+}
+
+fn live_number(table: &Table, random: &mut Random) -> Option<u32> {
+    let live: Vec<u32> = table.circuits().map(|circuit| circuit.number).collect();
+    some_of(&live, random)
+}
+
+fn free_number(table: &Table, random: &mut Random) -> u32 {
+    loop {
+        let number = number(random);
+        if table.place_of(number).is_none() {
+            return number;
+        }
+    }
+}

@@ -1,0 +1,16 @@
+//! The second ring controller: written from document 01 and source document 000 alone,
+//! so that the proved controller can be compared with it on long scripts.
+
+pub mod arguments;
+pub mod circuit;
+pub mod comparison;
+pub mod coverage;
+pub mod form;
+pub mod generator;
+pub mod opening;
+pub mod place;
+pub mod random;
+pub mod refusal;
+pub mod report;
+pub mod script;
+pub mod table;

@@ -1,0 +1,168 @@
+//! The saved form: writing, reading and the faults of a form.
+
+mod common;
+
+use common::{circuit, open, ring, tables};
+use ring::circuit::Circuit;
+use ring::form::{read, write, FORM_MOST};
+use ring::generator::Kind;
+use ring::refusal::Refusal;
+use ring::table::{Channel, Table};
+
+fn form_of(table: &Table) -> Vec<u8> {
+    let mut buffer = vec![0xEE; FORM_MOST + 7];
+    let length = write(table, &mut buffer).unwrap();
+    assert!(length <= FORM_MOST);
+    assert!(buffer[length..].iter().all(|&byte| byte == 0xEE));
+    buffer.truncate(length);
+    buffer
+}
+
+fn with_11_alone() -> Table {
+    let mut table = ring(&[1; 5]);
+    open(&mut table, circuit(11, 1, 5)).unwrap();
+    table
+}
+
+/// Bytes of a form where the map and the records of `with_11_alone` begin.
+const MAP: usize = 6;
+const RECORD: usize = 22;
+
+#[test]
+fn circuit_11_alone_is_29_bytes() {
+    let form = form_of(&with_11_alone());
+    assert_eq!(form.len(), 29);
+    assert_eq!(form[MAP], 1);
+    assert_eq!(form[..MAP], [5, 1, 1, 1, 1, 1]);
+    assert_eq!(form[RECORD..], [0, 0, 0, 0, 11, 1, 5]);
+}
+
+#[test]
+fn two_at_a_place_with_remarks() {
+    let mut table = ring(&[1; 3]);
+    open(&mut table, Circuit { remark: 0x0102, ..circuit(0xA1B2C3D4, 1, 2) }).unwrap();
+    open(&mut table, Circuit { remark: 7, ..circuit(5, 2, 3) }).unwrap();
+    let record = [7, 0, 0, 0, 5, 2, 3, 0, 7, 0xA1, 0xB2, 0xC3, 0xD4, 1, 2, 1, 2];
+    assert_eq!(form_of(&table)[4 + 16..], record);
+}
+
+#[test]
+fn the_longest_form() {
+    let mut table = ring(&[3; 64]);
+    let mut number = 0;
+    for node in 1..=64u8 {
+        for _ in 0..3 {
+            let next = node % 64 + 1;
+            open(&mut table, Circuit { remark: 1, ..circuit(number, node, next) }).unwrap();
+            number += 1;
+        }
+    }
+    let shared =
+        table.channels.iter().filter(|channel| matches!(channel, Channel::Two(..))).count();
+    let alone = table.channels.iter().filter(|channel| matches!(channel, Channel::One(_))).count();
+    assert_eq!(form_of(&table).len(), 1 + 64 + 16 + 17 * shared + 9 * alone);
+    assert_eq!(FORM_MOST, 1 + 64 + 16 + 128 + 192 * 8);
+}
+
+#[test]
+fn writing_refuses_a_broken_table_and_then_a_short_buffer() {
+    let mut buffer = [0xEE; 28];
+    assert_eq!(write(&Table::blank(), &mut buffer), Err(Refusal::BrokenTable));
+    assert_eq!(write(&Table::blank(), &mut []), Err(Refusal::BrokenTable));
+    assert_eq!(write(&with_11_alone(), &mut buffer), Err(Refusal::ShortBuffer));
+    assert_eq!(buffer, [0xEE; 28]);
+}
+
+#[test]
+fn a_form_read_back_gives_the_table_written() {
+    for kind in [Kind::Small, Kind::Mixed, Kind::Large] {
+        for table in tables(kind, 21, 6000, 11) {
+            assert_eq!(read(&form_of(&table)), Ok(table));
+        }
+    }
+}
+
+#[test]
+fn a_form_cut_anywhere_is_refused_with_30() {
+    for kind in [Kind::Small, Kind::Large] {
+        for table in tables(kind, 31, 3000, 97) {
+            let form = form_of(&table);
+            for length in 0..form.len() {
+                assert_eq!(read(&form[..length]), Err(Refusal::FormCut), "{length} bytes");
+            }
+        }
+    }
+}
+
+/// The form of circuit 11 alone, changed.
+fn changed(change: impl FnOnce(&mut Vec<u8>)) -> Result<Table, Refusal> {
+    let mut form = form_of(&with_11_alone());
+    change(&mut form);
+    read(&form)
+}
+
+#[test]
+fn faults_of_the_ring_in_a_form() {
+    assert_eq!(changed(|form| form[0] = 2), Err(Refusal::RingSize));
+    assert_eq!(changed(|form| form[0] = 65), Err(Refusal::RingSize));
+    assert_eq!(read(&[65]), Err(Refusal::RingSize));
+    assert_eq!(changed(|form| form[5] = 65), Err(Refusal::NodePorts));
+    assert_eq!(changed(|form| form[1..5].fill(64)), Err(Refusal::RingPorts));
+    assert_eq!(read(&[4, 64, 65, 64, 64]), Err(Refusal::NodePorts));
+    assert_eq!(read(&[4, 65, 64, 64]), Err(Refusal::FormCut));
+}
+
+#[test]
+fn faults_of_the_fields_in_a_form() {
+    assert_eq!(changed(|form| form[MAP] |= 1 << 4), Err(Refusal::FormField));
+    assert_eq!(changed(|form| form[MAP + 15] = 128), Err(Refusal::FormField));
+    assert_eq!(read(&[&[3, 1, 1, 1][..], &[255; 15]].concat()), Err(Refusal::FormCut));
+    for bit in 3..8 {
+        assert_eq!(changed(|form| form[RECORD] = 1 << bit), Err(Refusal::FormField));
+    }
+    assert_eq!(changed(|form| form[RECORD] = 4), Err(Refusal::FormField));
+    assert_eq!(changed(|form| form[RECORD] = 5), Err(Refusal::FormField));
+}
+
+#[test]
+fn a_written_remark_of_0_is_named_as_soon_as_it_is_whole() {
+    let with_remark = |tail: &'static [u8], field_map| {
+        changed(move |form| {
+            form[RECORD] = field_map;
+            form.extend(tail);
+        })
+    };
+    assert_eq!(with_remark(&[0, 0], 1), Err(Refusal::FormField));
+    assert_eq!(with_remark(&[0], 1), Err(Refusal::FormCut));
+    assert_eq!(with_remark(&[0, 0], 3), Err(Refusal::FormField));
+    assert!(with_remark(&[0, 1], 1).is_ok());
+}
+
+#[test]
+fn bytes_after_the_last_record_come_before_the_rules() {
+    assert_eq!(changed(|form| form.push(0)), Err(Refusal::FormTail));
+    let off_ring = |form: &mut Vec<u8>| form[RECORD + 5] = 9;
+    assert_eq!(changed(off_ring), Err(Refusal::FormRules));
+    let off_ring_with_tail = |form: &mut Vec<u8>| {
+        off_ring(form);
+        form.push(0);
+    };
+    assert_eq!(changed(off_ring_with_tail), Err(Refusal::FormTail));
+}
+
+#[test]
+fn a_form_that_breaks_a_ring_rule() {
+    let second = |number: u8, source, destination| {
+        changed(move |form| {
+            form[RECORD] = 2;
+            form.extend([0, 0, 0, number, source, destination]);
+        })
+    };
+    assert!(second(12, 5, 1).is_ok());
+    assert_eq!(second(11, 5, 1), Err(Refusal::FormRules), "a number twice");
+    assert_eq!(second(10, 5, 1), Err(Refusal::FormRules), "the higher number first");
+    assert_eq!(second(12, 2, 3), Err(Refusal::FormRules), "not adjacent");
+    assert_eq!(second(12, 5, 4), Err(Refusal::FormRules), "not in this direction");
+    assert_eq!(second(12, 5, 5), Err(Refusal::FormRules), "equal ends");
+    assert_eq!(changed(|form| form[1] = 0), Err(Refusal::FormRules), "no port");
+}

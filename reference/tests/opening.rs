@@ -1,0 +1,269 @@
+//! Opening and closing: the steps, the moves, the looks and the refusals.
+
+mod common;
+
+use common::{circuit, open, ring, tables};
+use ring::circuit::Circuit;
+use ring::generator::Kind;
+use ring::opening::{Move, Opening};
+use ring::place::{Direction, Place};
+use ring::random::Random;
+use ring::refusal::Refusal;
+use ring::table::{Channel, Table};
+
+fn answer(place: u8, moves: usize, looks: u32) -> Result<Opening, Refusal> {
+    Ok(Opening { place: Place(place), moves, looks })
+}
+
+fn record(number: u32, from: u8, to: u8) -> Move {
+    Move { number, from: Place(from), to: Place(to) }
+}
+
+const UNWRITTEN: Move = Move { number: 999, from: Place(99), to: Place(98) };
+
+/// A table with these circuits alone at their places.
+fn alone(ports: &[u8], circuits: &[(u8, Circuit)]) -> Table {
+    let mut table = ring(ports);
+    for &(place, circuit) in circuits {
+        table.channels[usize::from(place)] = Channel::One(circuit);
+    }
+    assert!(table.meets_ring_rules());
+    table
+}
+
+/// The ring of document 01 before circuit 15 is opened.
+fn ring_of_01() -> Table {
+    let mut table = ring(&[1; 5]);
+    let circuits = [circuit(11, 1, 5), circuit(12, 2, 3), circuit(13, 4, 1), circuit(14, 3, 2)];
+    for (place, circuit) in (0..).zip(circuits) {
+        assert_eq!(open(&mut table, circuit), answer(place, 0, 0));
+    }
+    table
+}
+
+#[test]
+fn step_1_comes_before_a_free_place() {
+    let mut table = ring(&[2; 5]);
+    assert_eq!(open(&mut table, circuit(7, 1, 3)), answer(0, 0, 0));
+    assert_eq!(open(&mut table, circuit(3, 3, 4)), answer(0, 0, 0));
+    assert_eq!(table.channels[0], Channel::Two(circuit(3, 3, 4), circuit(7, 1, 3)));
+}
+
+#[test]
+fn step_1_takes_the_lowest_place_that_fits() {
+    let circuits = [(0, circuit(1, 2, 5)), (2, circuit(2, 1, 3)), (4, circuit(3, 1, 3))];
+    let mut table = alone(&[2; 5], &circuits);
+    assert_eq!(open(&mut table, circuit(4, 3, 4)), answer(2, 0, 0));
+}
+
+#[test]
+fn circuits_without_a_common_link_do_not_share_unless_adjacent() {
+    let mut table = ring(&[2; 5]);
+    open(&mut table, circuit(1, 1, 2)).unwrap();
+    assert_eq!(open(&mut table, circuit(2, 3, 4)), answer(1, 0, 0));
+}
+
+#[test]
+fn hops_of_exactly_n_share_clockwise_only() {
+    let mut table = alone(&[2; 5], &[(1, circuit(1, 2, 3))]);
+    assert_eq!(open(&mut table, circuit(2, 3, 2)), answer(0, 0, 0));
+    let mut table = alone(&[2; 5], &[(0, circuit(1, 2, 3))]);
+    assert_eq!(open(&mut table, circuit(2, 3, 2)), answer(0, 0, 0));
+    assert!(matches!(table.channels[0], Channel::Two(..)));
+}
+
+#[test]
+fn step_3b_of_document_01_moves_three() {
+    let mut table = ring_of_01();
+    let mut list = [UNWRITTEN; 4];
+    assert_eq!(table.open(circuit(15, 5, 4), &mut list), answer(2, 3, 2));
+    assert_eq!(list, [record(12, 1, 0), record(11, 0, 1), record(13, 2, 1), UNWRITTEN]);
+    assert_eq!(table.channels[0], Channel::One(circuit(12, 2, 3)));
+    assert_eq!(table.channels[1], Channel::Two(circuit(11, 1, 5), circuit(13, 4, 1)));
+    assert_eq!(table.channels[2], Channel::One(circuit(15, 5, 4)));
+    assert_eq!(table.channels[3], Channel::One(circuit(14, 3, 2)));
+}
+
+/// Six nodes, three wavelengths, all places lit; three moves lead to the next table.
+fn full_ring() -> Table {
+    let circuits = [
+        (0, circuit(101, 3, 5)),
+        (1, circuit(102, 6, 5)),
+        (2, circuit(103, 1, 4)),
+        (3, circuit(104, 1, 2)),
+        (4, circuit(105, 4, 3)),
+        (5, circuit(106, 2, 1)),
+    ];
+    let mut table = alone(&[2, 1, 2, 1, 2, 1], &circuits);
+    assert_eq!(open(&mut table, circuit(107, 3, 1)), answer(4, 3, 4));
+    table
+}
+
+#[test]
+fn step_3b_with_the_new_circuit_moves_two_over_a_shared_lowest_place() {
+    let mut table = full_ring();
+    let mut list = [UNWRITTEN; 3];
+    assert!(matches!(table.channels[1], Channel::Two(..)));
+    assert_eq!(table.open(circuit(108, 5, 3), &mut list), answer(3, 2, 5));
+    assert_eq!(list, [record(104, 3, 0), record(102, 0, 3), UNWRITTEN]);
+    assert_eq!(table.channels[0], Channel::One(circuit(104, 1, 2)));
+    assert_eq!(table.channels[3], Channel::Two(circuit(102, 6, 5), circuit(108, 5, 3)));
+}
+
+#[test]
+fn step_3a_keeps_the_lower_place_where_both_fit() {
+    let mut table = full_ring();
+    open(&mut table, circuit(108, 5, 3)).unwrap();
+    let mut list = [UNWRITTEN; 3];
+    assert_eq!(table.open(circuit(109, 5, 6), &mut list), answer(4, 1, 2));
+    assert_eq!(list, [record(107, 4, 0), UNWRITTEN, UNWRITTEN]);
+    assert_eq!(table.channels[0], Channel::Two(circuit(104, 1, 2), circuit(107, 3, 1)));
+    assert_eq!(table.channels[4], Channel::One(circuit(109, 5, 6)));
+}
+
+#[test]
+fn step_3a_keeps_the_first_member_where_only_it_fits() {
+    let circuits = [
+        (0, circuit(1, 1, 3)),
+        (1, circuit(2, 4, 5)),
+        (2, circuit(3, 2, 4)),
+        (3, circuit(4, 5, 1)),
+    ];
+    let mut table = alone(&[1; 5], &circuits);
+    let mut list = [UNWRITTEN; 3];
+    assert_eq!(table.open(circuit(5, 3, 2), &mut list), answer(3, 1, 3));
+    assert_eq!(list, [record(4, 3, 0), UNWRITTEN, UNWRITTEN]);
+}
+
+#[test]
+fn step_3a_keeps_the_second_member_where_only_it_fits() {
+    let circuits = [
+        (0, circuit(1, 1, 4)),
+        (1, circuit(2, 2, 5)),
+        (2, circuit(3, 5, 3)),
+        (3, circuit(4, 4, 2)),
+    ];
+    let mut table = alone(&[1; 5], &circuits);
+    let mut list = [UNWRITTEN; 3];
+    assert_eq!(table.open(circuit(5, 3, 1), &mut list), answer(0, 1, 3));
+    assert_eq!(list, [record(1, 0, 3), UNWRITTEN, UNWRITTEN]);
+}
+
+#[test]
+fn each_refusal_of_an_opening() {
+    let mut table = ring(&[1, 1, 2, 0, 2]);
+    open(&mut table, circuit(1, 1, 2)).unwrap();
+    for (source, destination) in [(0, 1), (1, 0), (6, 1), (1, 6), (255, 255)] {
+        let refused = open(&mut table, circuit(2, source, destination));
+        assert_eq!(refused, Err(Refusal::OffRing));
+    }
+    assert_eq!(open(&mut table, circuit(2, 3, 3)), Err(Refusal::SameEnds));
+    assert_eq!(open(&mut table, circuit(1, 3, 5)), Err(Refusal::NumberLive));
+    assert_eq!(open(&mut table, circuit(2, 1, 3)), Err(Refusal::NoTransmitter));
+    assert_eq!(open(&mut table, circuit(2, 4, 3)), Err(Refusal::NoTransmitter));
+    assert_eq!(open(&mut table, circuit(2, 3, 2)), Err(Refusal::NoReceiver));
+    assert_eq!(open(&mut table, circuit(2, 3, 4)), Err(Refusal::NoReceiver));
+    let short = table.open(circuit(2, 3, 5), &mut [UNWRITTEN; 2]);
+    assert_eq!(short, Err(Refusal::ShortMoveList));
+    assert!(open(&mut table, circuit(2, 2, 1)).is_ok(), "a node that receives can still send");
+}
+
+#[test]
+fn faults_of_an_opening_are_named_in_order() {
+    let mut table = ring(&[1; 5]);
+    open(&mut table, circuit(1, 1, 2)).unwrap();
+    let mut broken = table.clone();
+    broken.ports[5] = 1;
+    assert_eq!(broken.open(circuit(1, 9, 9), &mut []), Err(Refusal::BrokenTable));
+    assert_eq!(table.open(circuit(1, 9, 9), &mut []), Err(Refusal::ShortMoveList));
+    assert_eq!(open(&mut table, circuit(1, 9, 9)), Err(Refusal::OffRing));
+    assert_eq!(open(&mut table, circuit(1, 1, 1)), Err(Refusal::SameEnds));
+    assert_eq!(open(&mut table, circuit(1, 1, 2)), Err(Refusal::NumberLive));
+    assert_eq!(open(&mut table, circuit(2, 1, 2)), Err(Refusal::NoTransmitter));
+}
+
+#[test]
+fn a_refused_opening_changes_nothing() {
+    let mut table = ring_of_01();
+    let before = table.clone();
+    let mut list = [UNWRITTEN; 3];
+    assert_eq!(table.open(circuit(16, 1, 2), &mut list), Err(Refusal::NoTransmitter));
+    assert_eq!((table, list), (before, [UNWRITTEN; 3]));
+}
+
+#[test]
+fn closing_one_of_two_leaves_the_other_alone() {
+    let mut table = ring(&[2; 5]);
+    open(&mut table, circuit(7, 1, 3)).unwrap();
+    open(&mut table, circuit(3, 3, 4)).unwrap();
+    assert_eq!(table.close(3), Ok(()));
+    assert_eq!(table.channels[0], Channel::One(circuit(7, 1, 3)));
+    assert_eq!(table.close(7), Ok(()));
+    assert_eq!(table, ring(&[2; 5]));
+}
+
+#[test]
+fn each_refusal_of_a_closing() {
+    let mut table = ring_of_01();
+    let before = table.clone();
+    assert_eq!(table.close(15), Err(Refusal::NumberNotLive));
+    assert_eq!(table, before);
+    assert_eq!(Table::blank().close(15), Err(Refusal::BrokenTable));
+}
+
+/// What the customer's third demand says of an opening that is not refused.
+fn check_opening(before: &Table, new: Circuit) {
+    let mut after = before.clone();
+    let mut list = [UNWRITTEN; 3];
+    let Ok(opening) = after.open(new, &mut list) else {
+        assert_eq!((&after, list), (before, [UNWRITTEN; 3]));
+        return;
+    };
+    assert!(after.meets_ring_rules());
+    assert_eq!((after.nodes, after.ports), (before.nodes, before.ports));
+    assert_eq!(after.place_of(new.number), Some(opening.place));
+    let mut circuits: Vec<Circuit> = before.circuits().chain([new]).collect();
+    let mut circuits_after: Vec<Circuit> = after.circuits().collect();
+    circuits.sort_by_key(|circuit| circuit.number);
+    circuits_after.sort_by_key(|circuit| circuit.number);
+    assert_eq!(circuits, circuits_after);
+    check_moves(before, &after, &list[..opening.moves]);
+    assert_eq!(list[opening.moves..], [UNWRITTEN; 3][opening.moves..]);
+    assert!(opening.looks <= 8256);
+    assert!((1..=after.nodes).all(|link| one_lightpath_each(&after, link)));
+}
+
+fn check_moves(before: &Table, after: &Table, list: &[Move]) {
+    let place = |table: &Table, number| table.place_of(number).unwrap();
+    let mut moved: Vec<u32> = before.circuits().map(|circuit| circuit.number).collect();
+    moved.retain(|&number| place(before, number) != place(after, number));
+    let mut listed: Vec<u32> = list.iter().map(|record| record.number).collect();
+    moved.sort();
+    listed.sort();
+    assert_eq!(moved, listed);
+    for record in list {
+        assert_eq!(record.from, place(before, record.number));
+        assert_eq!(record.to, place(after, record.number));
+    }
+}
+
+fn one_lightpath_each(table: &Table, link: u8) -> bool {
+    (0u8..).zip(&table.channels).all(|(place, channel)| {
+        let direction: Direction = Place(place).direction();
+        channel.circuits().filter(|circuit| circuit.uses_link(link, direction, table.nodes)).count()
+            <= 1
+    })
+}
+
+#[test]
+fn openings_on_generated_tables_keep_the_third_demand() {
+    let mut random = Random::new(1);
+    for kind in [Kind::Small, Kind::Mixed, Kind::Large] {
+        for table in tables(kind, 11, 4000, 7) {
+            let mut node = || random.between(1, usize::from(table.nodes)) as u8;
+            for number in [1_000_000, 2_000_000, 3_000_000] {
+                check_opening(&table, circuit(number, node(), node()));
+            }
+        }
+    }
+}
