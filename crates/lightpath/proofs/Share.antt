@@ -18,6 +18,11 @@ pub can-adjacent : (N : ℕ) (d : Direction) (a b : Circuit) → canShare N d a 
 can-adjacent N clockwise a b h = and-left (adjacent a b) _ h
 can-adjacent N counterclockwise a b h = and-left (adjacent a b) _ h
 
+-- a pair that is not adjacent shares in no direction
+pub apart-never : (N : ℕ) (d : Direction) (a b : Circuit) → adjacent a b ≡ false → canShare N d a b ≡ false
+apart-never N clockwise a b h = rw h
+apart-never N counterclockwise a b h = rw h
+
 -- the order of two tests does not matter
 or-swap : (a b : Bool) → (a || b) ≡ (b || a)
 or-swap true true = refl

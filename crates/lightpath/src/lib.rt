@@ -144,10 +144,13 @@ impl Circuit {
         requires { ⌜ 0 < nodes ⌝ }
         ensures { λ r. ⌜ r ≡ canShare nodes direction self other ⌝ }
     {
+        if !self.adjacent(other) {
+            return false;
+        }
         let total = self.hops(nodes) + other.hops(nodes);
         match direction {
-            Direction::Clockwise => self.adjacent(other) && total <= nodes as u16,
-            Direction::Counterclockwise => self.adjacent(other) && (nodes as u16) < total,
+            Direction::Clockwise => total <= nodes as u16,
+            Direction::Counterclockwise => (nodes as u16) < total,
         }
     }
 

@@ -1,7 +1,16 @@
 -- `lightpath::Circuit::can_share` meets its contract. Assumes nothing.
 use borrow.Author.Needs.{needs}
+use borrow.Author.Tests.{not-false}
+use Rattle.basis.proofs.Branch.{branch}
+use Rattle.lightpath.proofs.Share.{apart-never}
 use Rattle.lightpath.proofs.Circuit.can_share.Statement.{statement}
 use Rattle.lightpath.proofs.Circuit.can_share.Tie as tie
+
+adjacent-requires : tie.Need-adjacent-requires
+adjacent-requires c κs = search needs
+
+returns : tie.Need-returns
+returns c = search (needs, branch, apart-never)
 
 hops-requires : tie.Need-hops-requires
 hops-requires c κs = search needs
@@ -15,55 +24,43 @@ add-total c = search needs
 enum-told : tie.Need-enum-told
 enum-told c = search needs
 
-adjacent-requires : tie.Need-adjacent-requires
-adjacent-requires c κs = search needs
-
 enum-told-2 : tie.Need-enum-told-2
 enum-told-2 c = search needs
 
-adjacent-requires-2 : tie.Need-adjacent-requires-2
-adjacent-requires-2 c κs = search needs
-
-returns : tie.Need-returns
-returns c =
-    let total = c .before .before .before .before in
-    simp (
-      c .before .before .enum-told .given .1,
-      ← c .before .adjacent .ensures,
-      c .if1 .taken,
-      ← total .before .hops .ensures .0,
-      ← total .hops2 .ensures .0,
-    )
-
 returns-2 : tie.Need-returns-2
-returns-2 c = simp (c .before .before .enum-told .given .1, ← c .before .adjacent .ensures, c .if1 .left)
+returns-2 c =
+    let hops = c .before .before in
+    let asked = hops .before .before in
+    simp (
+      c .enum-told .given .1,
+      ← asked .before .adjacent .ensures,
+      not-false (asked .before .adjacent .result) (asked .if1 .left),
+      ← hops .before .hops .ensures .0,
+      ← hops .hops2 .ensures .0,
+    )
 
 returns-3 : tie.Need-returns-3
 returns-3 c =
-    let total = c .before .before .before .before in
+    let hops = c .before .before in
+    let asked = hops .before .before in
     simp (
-      c .before .before .enum-told2 .given .1,
-      ← c .before .adjacent2 .ensures,
-      c .if2 .taken,
-      ← total .before .hops .ensures .0,
-      ← total .hops2 .ensures .0,
+      c .enum-told2 .given .1,
+      ← asked .before .adjacent .ensures,
+      not-false (asked .before .adjacent .result) (asked .if1 .left),
+      ← hops .before .hops .ensures .0,
+      ← hops .hops2 .ensures .0,
     )
-
-returns-4 : tie.Need-returns-4
-returns-4 c = simp (c .before .before .enum-told2 .given .1, ← c .before .adjacent2 .ensures, c .if2 .left)
 
 pub can-share-spec : {M : Type 1} → statement M
 can-share-spec =
     tie.close
     (tie.spec
+    adjacent-requires
+    returns
     hops-requires
     hops-requires-2
     add-total
     enum-told
-    adjacent-requires
     enum-told-2
-    adjacent-requires-2
-    returns
     returns-2
-    returns-3
-    returns-4)
+    returns-3)
