@@ -1,13 +1,13 @@
--- Lemma 1: two adjacent circuits whose hops total at most N clockwise, or at least N counterclockwise, use no link together in that
--- direction. Assumes nothing.
+-- A circuit's hops are 1 to N − 1. Lemma 1: two adjacent circuits whose hops total at most N clockwise, or at least N counterclockwise,
+-- use no link together in that direction. Assumes nothing.
 use Prim.Native.Nat.{ℕ, _+_, _-_, _≤_, _<_}
 use mathlib.Core.Path.{_≡_, _∙_}
 use mathlib.Core.Logic.{_⊎_, inl, inr}
-use mathlib.Core.Bool.{true, not}
+use mathlib.Core.Bool.{true}
 use native.Mathlib.Nat.{add-comm, mod-lt, mod-eq-of-lt, add-mod-right}
 use native.Mathlib.Decide.{decLe}
 use native.Mathlib.Omega.{arith}
-use lib.Dec.{eqb, ltb}
+use lib.Dec.{eqb}
 use borrow.Author.Tests.{eqb-true, eqb-false, leb-true, ltb-true, ltb-false, not-true}
 use Rattle.basis.proofs.Bools.{and-left, and-right, or-true}
 use Rattle.lightpath.specs.Place.{Direction, clockwise, counterclockwise}
@@ -31,14 +31,12 @@ on-ring N c h = record {
   apart = eqb-false _ _ (not-true _ (search (and-left, and-right)));
 }
 
--- ---- the links from one node to another
-
--- it is less than once round the ring
+-- the way clockwise from one node to another is less than once round the ring
 pub ahead-lt : (N s x : ℕ) → 1 ≤ N → ahead N s x < N
 unfolding ahead
 ahead-lt N s x h = mod-lt (x + N - s) h
 
--- x − s where x comes after s, and otherwise N more
+-- it is x − s where x comes after s, and otherwise N more
 abbrev Ahead : ℕ → ℕ → ℕ → Type 0
 Ahead N s x = ((s ≤ x) × (ahead N s x ≡ x - s)) ⊎ ((x < s) × (ahead N s x ≡ x + N - s))
 
@@ -50,6 +48,20 @@ ahead-cases N s x sl sh xl xh = go (decLe s x)
     go : Dec (s ≤ x) → Ahead N s x
     go (yes h) = let e : x + N - s ≡ (x - s) + N = omega arith in inl (h, rw e (add-mod-right (x - s) N ∙ mod-eq-of-lt (omega arith)))
     go (no h) = inr (omega arith, mod-eq-of-lt (omega arith))
+
+-- a circuit's hops are 1 to N − 1
+pub hops-range : (N : ℕ) (c : Circuit) → joins N c ≡ true → (1 ≤ hops N c) × (hops N c < N)
+hops-range N c h = (
+  low (ahead-cases N (c .source) (c .destination) (o .sourceLow) (o .sourceHigh) (o .destLow) (o .destHigh)),
+  ahead-lt N (c .source) (c .destination) (omega (arith, o)),
+)
+  where
+    o : OnRing N c
+    o = on-ring N c h
+
+    low : Ahead N (c .source) (c .destination) → 1 ≤ hops N c
+    low (inl a) = omega (arith, o)
+    low (inr a) = omega (arith, o)
 
 -- from s over m to l it is as far as from s to l, or once more round the ring
 abbrev Chain : ℕ → ℕ → ℕ → ℕ → Type 0
@@ -67,16 +79,10 @@ module _ (N s m l : ℕ) (sh : s ≤ N) (mh : m ≤ N) (lh : l ≤ N) where
   chain (inr a) (inr b) (inl c) = inr (omega arith)
   chain (inr a) (inr b) (inr c) = inr (omega arith)
 
--- ---- Lemma 1
-
 -- the total of the hops of two circuits suits a direction
 abbrev pub Suits : ℕ → Direction → ℕ → Type 0
 Suits N clockwise total = total ≤ N
 Suits N counterclockwise total = N ≤ total
-
--- a test that fails
-not-ltb : (a b : ℕ) → not (ltb a b) ≡ true → b ≤ a
-not-ltb a b e = ltb-false a b (not-true (ltb a b) e)
 
 -- where the first ends at the source of the second
 clash : (N : ℕ) (a b : Circuit) (l : ℕ) → OnRing N a → OnRing N b → a .destination ≡ b .source → 1 ≤ l → l ≤ N → (d : Direction)
@@ -91,11 +97,14 @@ clash N a b l oa ob e ll lh d k ua ub =
     ha : hops N a ≡ ahead N (a .source) (b .source)
     ha = rw e
 
+    past : (c : Circuit) → uses N counterclockwise c l ≡ true → hops N c ≤ ahead N (c .source) l
+    past c u = ltb-false _ _ (not-true _ u)
+
     go : (d : Direction) → Suits N d (hops N a + hops N b) → uses N d a l ≡ true → uses N d b l ≡ true → Chain N (a .source) (b .source) l → ⊥
     go clockwise k ua ub (inl c) = omega (arith, ha, ltb-true)
     go clockwise k ua ub (inr c) = omega (arith, ha, ltb-true)
-    go counterclockwise k ua ub (inl c) = omega (arith, ha, not-ltb, ahead-lt N (a .source) l (omega arith))
-    go counterclockwise k ua ub (inr c) = omega (arith, ha, not-ltb, ahead-lt N (b .source) l (omega arith))
+    go counterclockwise k ua ub (inl c) = omega (arith, ha, past a ua, past b ub, ahead-lt N (a .source) l (omega arith))
+    go counterclockwise k ua ub (inr c) = omega (arith, ha, past a ua, past b ub, ahead-lt N (b .source) l (omega arith))
 
 -- whichever of the two begins where the other ends
 pub lemma1 : (N : ℕ) (a b : Circuit) (l : ℕ) → OnRing N a → OnRing N b → adjacent a b ≡ true → 1 ≤ l → l ≤ N → (d : Direction)
