@@ -23,6 +23,11 @@ pub at-every : (n : ℕ) (f : ℕ → Bool) → ((p : ℕ) → p < n → f p ≡
 at-every zero f h = refl
 at-every (suc n) f h = and-both _ _ (h 0 (omega arith)) (at-every n (λ p. f (suc p)) (λ p l. h (suc p) (suc-le-suc l)))
 
+-- tests that agree below n agree on that
+pub every-same : (n : ℕ) (f g : ℕ → Bool) → ((p : ℕ) → p < n → f p ≡ g p) → everyBelow n f ≡ everyBelow n g
+every-same zero f g h = refl
+every-same (suc n) f g h = simp (h 0 (omega arith), every-same n (λ p. f (suc p)) (λ p. g (suc p)) (λ p l. h (suc p) (suc-le-suc l)))
+
 -- the first that is found passes
 pub first-passes : (n : ℕ) (f : ℕ → Bool) → firstBelow n f < n → f (firstBelow n f) ≡ true
 first-passes zero f h = absurd (not-suc-le-zero h)

@@ -16,7 +16,7 @@ use Rattle.basis.specs.Search.{firstBelow}
 use Rattle.basis.proofs.Weigh.{bit-most}
 use Rattle.channels.specs.Slot.{Slot, unlit, alone, shared, isLit, isUnlit}
 use Rattle.channels.specs.Channels.{Channels, at, litPlaces}
-use Rattle.channels.specs.Lit.{Lit, bitOf, word, countBelow, litBit, litAt, litOf}
+use Rattle.channels.specs.Lit.{Lit, bitOf, word, countBelow, litBit, litAt, wordsOf, litOf}
 use Rattle.channels.proofs.Below.{count-same, first-same, count-sum, first-bound, first-sum}
 use Rattle.channels.proofs.Bits.{ones-count, trailing-first, word-lt, word-bit}
 
@@ -63,20 +63,20 @@ module _ (l : Lit) (low : l .low < 2 ^ 64) (high : l .high < 2 ^ 64) where
 
 -- ---- the words of a table
 
--- the words say of each place whether it is lit
-pub lit-word : (t : Channels) (p : ℕ) → p < 128 → litBit (litOf t) p ≡ litAt t p
+-- the words say of each place whether it passes the test that they are made of
+pub words-say : (f : ℕ → Bool) (p : ℕ) → p < 128 → litBit (wordsOf f) p ≡ f p
 unfolding litBit
-lit-word t p h = go (ltb p 64) refl
+words-say f p h = go (ltb p 64) refl
   where
-    go : (b : Bool) → ltb p 64 ≡ b → litBit (litOf t) p ≡ litAt t p
-    go true e = simp (e, word-bit (litAt t) 64 0 p (ltb-true p 64 e), zero-add)
+    go : (b : Bool) → ltb p 64 ≡ b → litBit (wordsOf f) p ≡ f p
+    go true e = simp (e, word-bit f 64 0 p (ltb-true p 64 e), zero-add)
     go false e =
         let l : 64 ≤ p = ltb-false p 64 e in
         let g : 64 + (p - 64) ≡ p = omega arith in
-        simp (e, word-bit (litAt t) 64 64 (p - 64) (omega arith), g)
+        simp (e, word-bit f 64 64 (p - 64) (omega arith), g)
 
 -- a place is unlit when it is not lit
-unlit-not : (s : Slot) → not (isLit s) ≡ isUnlit s
+pub unlit-not : (s : Slot) → not (isLit s) ≡ isUnlit s
 unlit-not unlit = refl
 unlit-not (alone a) = refl
 unlit-not (shared a b) = refl
@@ -84,7 +84,7 @@ unlit-not (shared a b) = refl
 -- the first place that is unlit by the words is the table's
 pub unlit-words : (t : Channels) → firstBelow 128 (λ p. not (litBit (litOf t) p)) ≡ firstBelow 128 (λ p. isUnlit (at t p))
 unlit-words t =
-    first-same 128 (λ p. not (litBit (litOf t) p)) (λ p. isUnlit (at t p)) (λ p h. ap not (lit-word t p h) ∙ unlit-not (at t p))
+    first-same 128 (λ p. not (litBit (litOf t) p)) (λ p. isUnlit (at t p)) (λ p h. ap not (words-say (litAt t) p h) ∙ unlit-not (at t p))
 
 -- the lit places, counted by place
 lit-all : (t : Channels) → countBelow (length t) (litAt t) ≡ litPlaces t
@@ -93,7 +93,7 @@ lit-all (ch ∷ t) = ap (λ (n : ℕ). bit (isLit (ch .slot)) + n) (lit-all t)
 
 -- the words count the lit places of the table
 pub lit-places : (t : Channels) → length t ≡ 128 → countBelow 128 (litBit (litOf t)) ≡ litPlaces t
-lit-places t e = count-same 128 (litBit (litOf t)) (litAt t) (lit-word t) ∙ ap (λ (n : ℕ). countBelow n (litAt t)) (sym e) ∙ lit-all t
+lit-places t e = count-same 128 (litBit (litOf t)) (litAt t) (words-say (litAt t)) ∙ ap (λ (n : ℕ). countBelow n (litAt t)) (sym e) ∙ lit-all t
 
 -- ---- the loop that makes the words from the highest place of each down
 

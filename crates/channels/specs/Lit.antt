@@ -29,6 +29,10 @@ litBit l p = pick (ltb p 64) (bitOf (l .low) p) (bitOf (l .high) (p - 64))
 abbrev pub litAt : Channels → ℕ → Bool
 litAt t p = isLit (at t p)
 
+-- the words of the places that pass a test
+abbrev pub wordsOf : (ℕ → Bool) → Lit
+wordsOf f = record { low = word f 64 0; high = word f 64 64 }
+
 -- the words of a table
 abbrev pub litOf : Channels → Lit
-litOf t = record { low = word (litAt t) 64 0; high = word (litAt t) 64 64 }
+litOf t = wordsOf (litAt t)

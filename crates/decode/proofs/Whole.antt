@@ -1,19 +1,18 @@
 -- Reading the whole form. Assumes nothing.
-use Prim.Native.Nat.{ℕ, zero, suc, _+_, _-_, _≤_, _<_}
+use Prim.Native.Nat.{ℕ, _+_, _-_, _≤_, _<_}
 use mathlib.Core.Path.{_≡_, refl, sym, ap, _∙_}
 use mathlib.Core.Bool.{Bool, true, false, _||_, not}
 use mathlib.Core.List.{List, [], _∷_, _++_}
-use native.Mathlib.Nat.{zero-add}
 use native.Mathlib.Omega.{arith}
 use lib.Dec.{leb, ltb}
 use lib.ListN.{length, take, drop, length-append, length-drop, drop-of-length-le}
 use lib.Seq.{drop-cons, drop-at, drop-drop}
-use borrow.Author.Tests.{le-leb, lt-leb, ltb-true, ltb-false, not-true, not-false}
-use Rattle.basis.specs.Search.{everyBelow}
+use borrow.Author.Tests.{le-leb, lt-leb, not-true, not-false}
+use Rattle.basis.proofs.Search.{every-same}
 use Rattle.channels.specs.declared.Lit.{Lit}
 use Rattle.channels.specs.Channels.{Channels}
-use Rattle.channels.specs.Lit.{litBit}
-use Rattle.channels.proofs.Bits.{word-bit}
+use Rattle.channels.specs.Lit.{litBit, wordsOf}
+use Rattle.channels.proofs.Words.{words-say}
 use Rattle.rules.specs.Ports.{limitOf}
 use Rattle.ring.specs.Table.{meetsRules, freshTable, withChannels}
 use Rattle.ring.specs.declared.Answered.{Answered}
@@ -22,13 +21,13 @@ use Rattle.ring.specs.declared.Refusal.{Refusal}
 use Rattle.ring.specs.declared.Refusal.the-variants.{CutShort, BadField, TrailingBytes, BrokenForm}
 use Rattle.ring.specs.declared.Verdict.the-variants.{Granted as granted, Refused as refused}
 use Rattle.form.specs.Reader.{Field, got, fault}
-use Rattle.form.specs.Reading.{answeredBy, readPorts, mapBit, unlitFrom, readMap, readRecords, checked, readTable, readOf}
+use Rattle.form.specs.Reading.{answeredBy, readPorts, mapBit, noneLitFrom, readMap, readRecords, checked, readTable, readOf}
 use Rattle.form.proofs.Ports.{limit-zeros}
 use Rattle.form.proofs.Fields.{Holds}
 use Rattle.form.proofs.Whole.{ports-are}
 use Rattle.decode.specs.declared.places.RecordsRead.{RecordsRead}
 use Rattle.decode.specs.Found.{RecordsAt}
-use Rattle.decode.specs.Begun.{wordsOf, ringBy, judgedTable, Ported, Mapped}
+use Rattle.decode.specs.Begun.{ringBy, judgedTable, Ported, Mapped}
 use Rattle.decode.proofs.Listing.{records-same}
 
 -- a refusal on the way is the answer
@@ -65,28 +64,12 @@ ring-granted b r e g = ring-got-by b (readPorts b) r refl (ports-are b) e g
 
 pub ruleset readRules = (ring-refused, ring-granted)
 
--- ---- the map
-
-every-same : (n : ℕ) (f g : ℕ → Bool) → ((p : ℕ) → p < n → f p ≡ g p) → everyBelow n f ≡ everyBelow n g
-every-same zero f g h = refl
-every-same (suc n) f g h = rw (h 0 (omega arith), every-same n (λ p. f (suc p)) (λ p. g (suc p)) (λ p l. h (suc p) (omega arith)))
-
-unlit-same : (m : ℕ) (f g : ℕ → Bool) → ((p : ℕ) → p < 128 → f p ≡ g p) → unlitFrom m f ≡ unlitFrom m g
-unfolding unlitFrom
+-- maps that agree are judged alike
+unlit-same : (m : ℕ) (f g : ℕ → Bool) → ((p : ℕ) → p < 128 → f p ≡ g p) → noneLitFrom m f ≡ noneLitFrom m g
+unfolding noneLitFrom
 unlit-same m f g h = every-same 128 (λ p. ltb p m || not (f p)) (λ p. ltb p m || not (g p)) (λ p l. rw (h p l))
 
--- the words say of each place what they were made of
-words-say : (f : ℕ → Bool) (p : ℕ) → p < 128 → litBit (wordsOf f) p ≡ f p
-unfolding litBit
-words-say f p h = go (ltb p 64) refl
-  where
-    go : (o : Bool) → ltb p 64 ≡ o → litBit (wordsOf f) p ≡ f p
-    go true e = rw (e, word-bit f 64 0 p (ltb-true p 64 e), zero-add)
-    go false e =
-        let l : 64 ≤ p = ltb-false p 64 e in
-        let g : 64 + (p - 64) ≡ p = omega arith in
-        rw (e, word-bit f 64 64 (p - 64) (omega arith), g)
-
+-- the map: cut short, with a bit at the limit or above, or good
 module _ (b : List ℕ) (t : RingTable) (q : Ported b t) where
   pub map-cut : length b - (1 + t .nodes) < 16 → readTable b ≡ fault CutShort
   unfolding readTable readMap
@@ -103,8 +86,8 @@ module _ (b : List ℕ) (t : RingTable) (q : Ported b t) where
     says : (p : ℕ) → p < 128 → litBit lit p ≡ mapBit (take 16 (drop (1 + t .nodes) b)) p
     says p l = rw w (words-say (mapBit (take 16 (drop (1 + t .nodes) b))) p l)
 
-    module _ (v : Bool) (m : ℕ) (e : v ≡ unlitFrom m (litBit lit)) (g : m ≡ limitOf (t .ports)) where
-      judged : unlitFrom (limitOf (q .ports)) (mapBit (take 16 (drop (1 + t .nodes) b))) ≡ v
+    module _ (v : Bool) (m : ℕ) (e : v ≡ noneLitFrom m (litBit lit)) (g : m ≡ limitOf (t .ports)) where
+      judged : noneLitFrom (limitOf (q .ports)) (mapBit (take 16 (drop (1 + t .nodes) b))) ≡ v
       judged = sym (e ∙ rw (g, limit) (unlit-same (limitOf (q .ports)) (litBit lit) (mapBit (take 16 (drop (1 + t .nodes) b))) says))
 
       pub map-bad : not v ≡ true → readTable b ≡ fault BadField

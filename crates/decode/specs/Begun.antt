@@ -1,12 +1,11 @@
 -- What the reader has of a form after its ports, and after its map. Assumes nothing.
 use Prim.Native.Nat.{ℕ, _+_, _≤_}
 use mathlib.Core.Path.{_≡_}
-use mathlib.Core.Bool.{Bool}
 use mathlib.Core.List.{List}
 use lib.ListN.{length, drop}
 use Rattle.basis.specs.Choice.{pick}
 use Rattle.channels.specs.declared.Lit.{Lit}
-use Rattle.channels.specs.Lit.{word, litBit}
+use Rattle.channels.specs.Lit.{litBit}
 use Rattle.ring.specs.Table.{meetsRules, blankTable, freshTable}
 use Rattle.ring.specs.declared.RingTable.{RingTable}
 use Rattle.ring.specs.declared.Refusal.the-variants.{BrokenForm}
@@ -19,10 +18,6 @@ use Rattle.form.specs.Reading.{readPorts, readRecords, checked, readTable, answ
 abbrev pub ringBy : Field (List ℕ) → Answered
 ringBy (got ks s) = record { table = freshTable (length ks) ks; verdict = granted }
 ringBy (fault r) = record { table = blankTable; verdict = refused r }
-
--- the words of the places that pass a test
-abbrev pub wordsOf : (ℕ → Bool) → Lit
-wordsOf lit = record { low = word lit 64 0; high = word lit 64 64 }
 
 -- a table as it was read, if it meets the ring rules
 unfoldable pub judgedTable : RingTable → Answered

@@ -100,7 +100,7 @@ fn read_places(form: &[u8], ring: RingTable) -> Answered
     }
     let lit = map::read_map(form, start);
     let ports = ring.ports;
-    if !map::unlit_from(lit, rules::place_limit(ports)) {
+    if !map::none_lit_from(lit, rules::place_limit(ports)) {
         return refused(Refusal::BadField);
     }
     read_channels(form, ring, lit)

@@ -5,9 +5,8 @@ ghost use mathlib.Core.Bool.{_||_, not};
 ghost use Prim.Native.Nat.{_+_, _*_, _^_, _≤_, _<_};
 ghost use lib.Dec.{ltb};
 ghost use lib.ListN.{length, take, drop};
-ghost use Rattle.channels.specs.Lit.{word, litBit};
-ghost use Rattle.form.specs.Reading.{mapBit, unlitFrom};
-ghost use Rattle.decode.specs.Begun.{wordsOf};
+ghost use Rattle.channels.specs.Lit.{word, litBit, wordsOf};
+ghost use Rattle.form.specs.Reading.{mapBit, noneLitFrom};
 use channels::Lit;
 
 // Whether the words of the map say that a place is lit.
@@ -33,8 +32,8 @@ fn may_stand(lit: Lit, limit: usize, place: usize) -> bool
 }
 
 // Whether no place from the limit on is lit.
-pub fn unlit_from(lit: Lit, limit: usize) -> bool
-    ensures { λ r. ⌜ r ≡ unlitFrom limit (litBit lit) ⌝ }
+pub fn none_lit_from(lit: Lit, limit: usize) -> bool
+    ensures { λ r. ⌜ r ≡ noneLitFrom limit (litBit lit) ⌝ }
 {
     for place in 0..128usize {
         if !may_stand(lit, limit, place) {

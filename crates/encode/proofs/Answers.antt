@@ -15,7 +15,7 @@ use Rattle.ring.specs.declared.Refusal.the-variants.{ShortBuffer, BrokenRule}
 use Rattle.form.specs.Form.{formOf}
 use Rattle.encode.specs.declared.Written.the-variants.{Length, Refused}
 use Rattle.text.specs.Put.{Room, Put}
-use Rattle.encode.specs.Answer.{writtenOf, lentAfter}
+use Rattle.encode.specs.Answer.{writtenOf, bytesAfter}
 
 -- the table breaks a ring rule
 module _ (t : RingTable) (l : List ℕ) (v : Bool) (e : v ≡ meetsRules t) (h : not v ≡ true) where
@@ -23,8 +23,8 @@ module _ (t : RingTable) (l : List ℕ) (v : Bool) (e : v ≡ meetsRules t) (h :
   unfolding writtenOf
   broken = rw (← e, not-true v h)
 
-  pub broken-kept : l ≡ lentAfter t l
-  unfolding lentAfter
+  pub broken-kept : l ≡ bytesAfter t l
+  unfolding bytesAfter
   broken-kept = rw (← e, not-true v h)
 
 -- it meets them
@@ -42,8 +42,8 @@ module _ (t : RingTable) (l : List ℕ) (m : meetsRules t ≡ true) where
     unfolding writtenOf
     short k = rw (m, lt-ltb (length l) (length (formOf t)) (omega arith))
 
-    pub short-kept : length l < n → l ≡ lentAfter t l
-    unfolding lentAfter
+    pub short-kept : length l < n → l ≡ bytesAfter t l
+    unfolding bytesAfter
     short-kept k = rw (m, lt-ltb (length l) (length (formOf t)) (omega arith))
 
     -- it is not
@@ -55,8 +55,8 @@ module _ (t : RingTable) (l : List ℕ) (m : meetsRules t ≡ true) where
       unfolding writtenOf
       written = rw (m, le-ltb (length l) (length (formOf t)) (omega arith), g)
 
-      pub form-over : (l1 : List ℕ) (i : ℕ) → Put l 0 (formOf t) l1 i → l1 ≡ lentAfter t l
-      unfolding lentAfter
+      pub form-over : (l1 : List ℕ) (i : ℕ) → Put l 0 (formOf t) l1 i → l1 ≡ bytesAfter t l
+      unfolding bytesAfter
       form-over l1 i q =
           let w : sets l 0 (formOf t) ≡ [] ++ formOf t ++ drop (0 + length (formOf t)) l = sets-eq (formOf t) l 0 (omega arith) in
           rw (m, le-ltb (length l) (length (formOf t)) (omega arith)) (q .is ∙ w ∙ rw zero-add)

@@ -27,9 +27,9 @@ unfoldable pub writtenOf : RingTable → ℕ → Written
 writtenOf t n = writtenBy t (judged (writeCauses t n))
 
 -- and leaves the lent bytes after the form; on a refusal all of them
-abbrev pub lentBy : RingTable → List ℕ → Verdict → List ℕ
-lentBy t l granted = formOf t ++ drop (length (formOf t)) l
-lentBy t l (refused r) = l
+abbrev pub bytesBy : RingTable → List ℕ → Verdict → List ℕ
+bytesBy t l granted = formOf t ++ drop (length (formOf t)) l
+bytesBy t l (refused r) = l
 
-unfoldable pub lentAfter : RingTable → List ℕ → List ℕ
-lentAfter t l = lentBy t l (judged (writeCauses t (length l)))
+unfoldable pub bytesAfter : RingTable → List ℕ → List ℕ
+bytesAfter t l = bytesBy t l (judged (writeCauses t (length l)))

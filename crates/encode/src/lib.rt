@@ -13,7 +13,7 @@ ghost use Rattle.text.specs.Put.{Room, Put};
 ghost use Rattle.channels.specs.Lit.{litOf};
 ghost use Rattle.form.specs.Form.{formOf};
 ghost use Rattle.ring.specs.Table.{meetsRules};
-ghost use Rattle.encode.specs.Answer.{writtenOf, lentAfter};
+ghost use Rattle.encode.specs.Answer.{writtenOf, bytesAfter};
 use channels::Lit;
 use ring::Refusal;
 use ring::RingTable;
@@ -41,7 +41,7 @@ fn put_form(out: &mut [u8], table: RingTable, lit: Lit) -> usize
 // Writes the form of a table that meets the ring rules.
 pub fn write_valid(table: RingTable, out: &mut [u8]) -> Written
     requires { ⌜ meetsRules table ≡ true ⌝ }
-    ensures { λ r. ⌜ (r ≡ writtenOf table (length (now (out .entry)))) × (now (out .exit) ≡ lentAfter table (now (out .entry))) ⌝ }
+    ensures { λ r. ⌜ (r ≡ writtenOf table (length (now (out .entry)))) × (now (out .exit) ≡ bytesAfter table (now (out .entry))) ⌝ }
 {
     let channels = table.channels;
     let lit = channels::lit_of(channels);
@@ -56,7 +56,7 @@ pub fn write_valid(table: RingTable, out: &mut [u8]) -> Written
 // Writes the form of a table: 22 where it breaks a ring rule, 21 where the lent bytes are too few. The bytes after the form keep their
 // values, and on a refusal all do.
 pub fn write(table: RingTable, out: &mut [u8]) -> Written
-    ensures { λ r. ⌜ (r ≡ writtenOf table (length (now (out .entry)))) × (now (out .exit) ≡ lentAfter table (now (out .entry))) ⌝ }
+    ensures { λ r. ⌜ (r ≡ writtenOf table (length (now (out .entry)))) × (now (out .exit) ≡ bytesAfter table (now (out .entry))) ⌝ }
 {
     if !table.meets_rules() {
         return Written::Refused(Refusal::BrokenRule);

@@ -12,11 +12,9 @@ use borrow.Author.Tests.{le-leb, leb-true, eqb-true, ltb-false}
 use Rattle.basis.specs.Count.{total}
 use Rattle.basis.proofs.Bools.{and-left, and-right, all-right}
 use Rattle.basis.proofs.Search.{at-every}
-use Rattle.channels.specs.Slot.{isLit, isUnlit}
-use Rattle.channels.specs.declared.Slot.{Slot}
-use Rattle.channels.specs.declared.Slot.the-variants.{Unlit as unlit, Alone as alone, Shared as shared}
 use Rattle.channels.specs.Channels.{Channels}
 use Rattle.channels.specs.Lit.{litAt}
+use Rattle.channels.proofs.Words.{unlit-not}
 use Rattle.rules.specs.Ports.{limitOf, eachAtMost}
 use Rattle.rules.proofs.Rules.{rules-hold, limits-hold}
 use Rattle.ring.specs.Table.{meetsRules, freshTable, withChannels}
@@ -24,7 +22,7 @@ use Rattle.ring.specs.declared.RingTable.{RingTable}
 use Rattle.ring.specs.declared.Refusal.the-variants.{NodeCount, PortCount, PortSum, BadField, BrokenForm}
 use Rattle.form.specs.Form.{mapBytes, recordsBytes, portsBytes, formOf}
 use Rattle.form.specs.Reader.{got, byte, bytes, end}
-use Rattle.form.specs.Reading.{readPorts, mapBit, unlitFrom, readMap, readRecords, checked, readTable}
+use Rattle.form.specs.Reading.{readPorts, mapBit, noneLitFrom, readMap, readRecords, checked, readTable}
 use Rattle.form.proofs.Words.{map-long, map-says, map-is}
 use Rattle.form.proofs.Ports.{total-nodes, nodes-zeros, each-take}
 use Rattle.form.proofs.Trip.{records-back}
@@ -40,13 +38,9 @@ ports-back : (N : ℕ) (ks s : List ℕ) → 3 ≤ N → N ≤ 64 → length ks 
 unfolding readPorts
 ports-back N ks s l h e m t = rw (le-leb 3 N l, le-leb N 64 h, bytes-back ks s N e, m, le-leb (total ks) 192 t)
 
-not-lit : (s : Slot) → not (isLit s) ≡ isUnlit s
-not-lit unlit = refl
-not-lit (alone a) = refl
-not-lit (shared a b) = refl
-
-unlit-written : (lit : ℕ → Bool) (limit : ℕ) → ((p : ℕ) → p < 128 → limit ≤ p → not (lit p) ≡ true) → unlitFrom limit (mapBit (mapBytes lit 16 0)) ≡ true
-unfolding unlitFrom
+-- the map that is written has no place lit from the limit on
+unlit-written : (lit : ℕ → Bool) (limit : ℕ) → ((p : ℕ) → p < 128 → limit ≤ p → not (lit p) ≡ true) → noneLitFrom limit (mapBit (mapBytes lit 16 0)) ≡ true
+unfolding noneLitFrom
 unlit-written lit limit h = at-every 128 (λ p. ltb p limit || not (mapBit (mapBytes lit 16 0) p)) (λ p l. go p l (ltb p limit) refl)
   where
     go : (p : ℕ) → p < 128 → (o : Bool) → ltb p limit ≡ o → (ltb p limit || not (mapBit (mapBytes lit 16 0) p)) ≡ true
@@ -76,7 +70,7 @@ table-back t m =
     rw (
       ports-back (t .nodes) (portsBytes t) (mapBytes lit 16 0 ++ recordsBytes (t .channels)) (l .three) (l .most) count
           (each-take 64 (t .nodes) (t .ports) (search (and-left, and-right))) (omega (arith, sum, leb-true (total (t .ports)) 192 (search (and-left, and-right)))),
-      map-back lit (limitOf (portsBytes t)) (recordsBytes (t .channels)) (λ p k u. rw not-lit (r .unused p k (omega (arith, sum)))),
+      map-back lit (limitOf (portsBytes t)) (recordsBytes (t .channels)) (λ p k u. rw unlit-not (r .unused p k (omega (arith, sum)))),
       records,
       checked-back t (portsBytes t) m count ports,
     )
@@ -98,7 +92,7 @@ map-wrote : (limit : ℕ) (s : List ℕ) → AreBytes s → Holds (λ m r. Wrote
 unfolding readMap
 map-wrote limit s h =
     then-holds _ _ (bytes 16 s) _ (bytes-wrote 16 s h) λ m r q.
-    unless-holds _ BadField (unlitFrom limit (mapBit m)) r _ λ a.
+    unless-holds _ BadField (noneLitFrom limit (mapBit m)) r _ λ a.
     q
 
 end-empty : (s : List ℕ) → Holds (λ u r. s ≡ []) (end s)

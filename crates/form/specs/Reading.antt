@@ -36,14 +36,14 @@ unfoldable pub mapBit : List ℕ → ℕ → Bool
 mapBit m p = bitOf (getD m (p / 8) 0) (p % 8)
 
 -- no place of the 128 from the limit on is lit
-unfoldable pub unlitFrom : ℕ → (ℕ → Bool) → Bool
-unlitFrom limit lit = everyBelow 128 (λ p. ltb p limit || not (lit p))
+unfoldable pub noneLitFrom : ℕ → (ℕ → Bool) → Bool
+noneLitFrom limit lit = everyBelow 128 (λ p. ltb p limit || not (lit p))
 
 -- the map is one field; a bit at the limit or above is 31
 unfoldable pub readMap : ℕ → Reader (List ℕ)
 readMap limit = do
   m ← bytes 16
-  BadField unless unlitFrom limit (mapBit m)
+  BadField unless noneLitFrom limit (mapBit m)
   give m
 
 -- a remark where its bit stands, which is then not 0

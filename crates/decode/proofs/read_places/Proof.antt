@@ -25,8 +25,8 @@ read-map-requires c κs = search needs
 place-limit-requires : tie.Need-place-limit-requires
 place-limit-requires c κs = search needs
 
-unlit-from-requires : tie.Need-unlit-from-requires
-unlit-from-requires c κs = search needs
+none-lit-from-requires : tie.Need-none-lit-from-requires
+none-lit-from-requires c κs = search needs
 
 refused-requires-2 : tie.Need-refused-requires-2
 refused-requires-2 c κs = search needs
@@ -51,7 +51,7 @@ read-places-spec =
     returns
     read-map-requires
     place-limit-requires
-    unlit-from-requires
+    none-lit-from-requires
     refused-requires-2
     returns-2
     read-channels-requires

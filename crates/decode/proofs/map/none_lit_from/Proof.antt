@@ -1,13 +1,13 @@
--- `decode::map::unlit_from` meets its contract. Assumes nothing.
+-- `decode::map::none_lit_from` meets its contract. Assumes nothing.
 use Prim.Native.Nat.{_-_, _≤_}
 use mathlib.Core.Bool.{true, _||_, not}
 use lib.Dec.{ltb}
 use borrow.Author.Needs.{needs}
 use Rattle.basis.proofs.Scan.{Passed, scan}
 use Rattle.channels.specs.Lit.{litBit}
-use Rattle.form.specs.Reading.{unlitFrom}
-use Rattle.decode.proofs.map.unlit_from.Statement.{statement}
-use Rattle.decode.proofs.map.unlit_from.Tie as tie
+use Rattle.form.specs.Reading.{noneLitFrom}
+use Rattle.decode.proofs.map.none_lit_from.Statement.{statement}
+use Rattle.decode.proofs.map.none_lit_from.Tie as tie
 
 abbrev Inv-loop : tie.InvT-loop
 Inv-loop lit limit place₀ place = (place ≤ 128) × Passed (λ p. ltb p limit || not (litBit lit p)) true place
@@ -22,7 +22,7 @@ may-stand-requires : tie.Need-may-stand-requires Inv-loop μ-loop
 may-stand-requires c κs = search needs
 
 returns : tie.Need-returns Inv-loop μ-loop
-unfolding unlitFrom
+unfolding noneLitFrom
 returns c = search (needs, scan)
 
 add-place : tie.Need-add-place Inv-loop μ-loop
@@ -35,11 +35,11 @@ loop-again : tie.Need-loop-again Inv-loop μ-loop
 loop-again c = search (needs, scan)
 
 returns-2 : tie.Need-returns-2 Inv-loop μ-loop
-unfolding unlitFrom
+unfolding noneLitFrom
 returns-2 c = search (needs, scan)
 
-pub unlit-from-spec : {M : Type 1} → statement M
-unlit-from-spec =
+pub none-lit-from-spec : {M : Type 1} → statement M
+none-lit-from-spec =
     tie.close
     (tie.spec
     Inv-loop
