@@ -1,28 +1,17 @@
 // Writing a circuit at a position of the lent bytes.
 
-ghost use mathlib.Core.List.{[], _∷_};
-ghost use Prim.Native.Nat.{_+_};
 ghost use Rattle.text.specs.Put.{Room, Put};
 ghost use Rattle.form.specs.Bytes.{fourBytes, twoBytes};
 ghost use Rattle.form.specs.Form.{remarkBytes, circuitBytes};
 use lightpath::Circuit;
-
-// Writes a byte and gives the position after it.
-pub fn put_byte(out: &mut [u8], at: usize, value: u8) -> usize
-    requires { ⌜ Room (now out) at (value ∷ []) ⌝ }
-    ensures { λ r. ⌜ Put (now (out .entry)) at (value ∷ []) (now (out .exit)) r ⌝ }
-{
-    out[at] = value;
-    at + 1
-}
 
 // Writes a number of 16 bits, highest byte first.
 fn put_two(out: &mut [u8], at: usize, value: u16) -> usize
     requires { ⌜ Room (now out) at (twoBytes value) ⌝ }
     ensures { λ r. ⌜ Put (now (out .entry)) at (twoBytes value) (now (out .exit)) r ⌝ }
 {
-    let next = put_byte(out, at, (value / 256) as u8);
-    put_byte(out, next, (value % 256) as u8)
+    let next = text::put_byte(out, at, (value / 256) as u8);
+    text::put_byte(out, next, (value % 256) as u8)
 }
 
 // Writes a number of 32 bits, highest byte first.
@@ -51,7 +40,7 @@ pub fn put_circuit(out: &mut [u8], at: usize, circuit: Circuit) -> usize
     ensures { λ r. ⌜ Put (now (out .entry)) at (circuitBytes circuit) (now (out .exit)) r ⌝ }
 {
     let source = put_four(out, at, circuit.number);
-    let destination = put_byte(out, source, circuit.source);
-    let remark = put_byte(out, destination, circuit.destination);
+    let destination = text::put_byte(out, source, circuit.source);
+    let remark = text::put_byte(out, destination, circuit.destination);
     put_remark(out, remark, circuit.remark)
 }

@@ -32,7 +32,7 @@ fn put_form(out: &mut [u8], table: RingTable, lit: Lit) -> usize
     let nodes = table.nodes;
     let ports = table.ports;
     let channels = table.channels;
-    let start = circuit::put_byte(out, 0, nodes);
+    let start = text::put_byte(out, 0, nodes);
     let map = text::put_text(out, start, &ports[..nodes as usize]);
     let records = map::put_map(out, map, lit);
     places::put_records(out, records, channels)

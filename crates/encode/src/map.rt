@@ -12,7 +12,7 @@ fn put_word(out: &mut [u8], start: usize, word: u64) -> usize
     let mut at = start;
     let mut rest = word;
     for byte in 0..8usize {
-        at = crate::circuit::put_byte(out, at, (rest % 256) as u8);
+        at = text::put_byte(out, at, (rest % 256) as u8);
         rest = rest / 256;
     }
     at

@@ -32,7 +32,7 @@ fn put_alone(out: &mut [u8], at: usize, a: Circuit) -> usize
     requires { ⌜ Room (now out) at (recordBytes (Slot.Alone a)) ⌝ }
     ensures { λ r. ⌜ Put (now (out .entry)) at (recordBytes (Slot.Alone a)) (now (out .exit)) r ⌝ }
 {
-    let first = crate::circuit::put_byte(out, at, mark(a));
+    let first = text::put_byte(out, at, mark(a));
     crate::circuit::put_circuit(out, first, a)
 }
 
@@ -41,7 +41,7 @@ fn put_shared(out: &mut [u8], at: usize, a: Circuit, b: Circuit) -> usize
     requires { ⌜ Room (now out) at (recordBytes (Slot.Shared a b)) ⌝ }
     ensures { λ r. ⌜ Put (now (out .entry)) at (recordBytes (Slot.Shared a b)) (now (out .exit)) r ⌝ }
 {
-    let first = crate::circuit::put_byte(out, at, shared_map(a, b));
+    let first = text::put_byte(out, at, shared_map(a, b));
     let second = crate::circuit::put_circuit(out, first, a);
     crate::circuit::put_circuit(out, second, b)
 }
