@@ -48,7 +48,7 @@ pub ruleset judging = (no-link, no-wavelength, no-direction, no-cause)
 
 module _ (t : RingTable) (l w d : ℕ) (v : Verdict) (e : v ≡ linkVerdict t l w d) where
   -- a question that is granted asks for what is there
-  pub asked : meetsRules t ≡ true → v ≡ granted → Asked t l w d
+  pub asked : meetsRules t ≡ true → v ≡ granted → Asked t l w
   unfolding linkVerdict
   asked meets g =
       let limits = limits-hold (t .nodes) (t .ports) (t .channels) (rules-hold (t .nodes) (t .ports) (t .channels) meets) in

@@ -56,8 +56,9 @@ linkBy t l w d (refused r) = refusalOf r
 unfoldable pub linkOf : RingTable → ℕ → ℕ → ℕ → ℕ
 linkOf t l w d = linkBy t l w d (linkVerdict t l w d)
 
--- the numbers of a question that is not refused, on a ring that meets the rules
-pub record Asked (t : RingTable) (l w d : ℕ) : Type 0 where
+-- link and wavelength of a question that is not refused, on a ring that meets the rules: W is at most 64 there, so that the place asked
+-- for is one of the 128. The direction needs no fact: `way` takes every number but 0 as counterclockwise
+pub record Asked (t : RingTable) (l w : ℕ) : Type 0 where
   pub low : 1 ≤ l
   pub high : l ≤ t .nodes
   pub below : w < wavelengths (t .ports)

@@ -85,7 +85,7 @@ fn judge(table: RingTable, link: u64, wavelength: u64, direction: u64) -> Verdic
 
 // The circuit on the link, on the wavelength in the direction asked for.
 fn circuit_on(table: RingTable, link: u64, wavelength: u64, direction: u64) -> u64
-    requires { ⌜ Asked table link wavelength direction ⌝ }
+    requires { ⌜ Asked table link wavelength ⌝ }
     ensures { λ r. ⌜ r ≡ circuitOn table link wavelength (way direction) ⌝ }
 {
     let channels = table.channels;
