@@ -1,7 +1,6 @@
 // Reading the record of a place, and the records by rising place.
 
 ghost use mathlib.Core.Path.{_≡_};
-ghost use mathlib.Core.Bool.{not};
 ghost use Prim.Native.Nat.{_+_, _≤_, _<_};
 ghost use lib.ListN.{length, drop};
 ghost use Rattle.channels.specs.Lit.{bitOf, litBit};

@@ -38,7 +38,8 @@ unfolding twoBytes
 remark-by r true = omega arith
 remark-by r false = omega arith
 
-pub circuit-most : (c : Circuit) → length (circuitBytes c) ≤ 8
+-- a circuit at most eight
+circuit-most : (c : Circuit) → length (circuitBytes c) ≤ 8
 unfolding circuitBytes fourBytes twoBytes remarkBytes
 circuit-most c = omega (arith, remark-by (c .remark) (eqb (c .remark) 0))
 

@@ -2,7 +2,7 @@
 // only a ring of no nodes is asked away, since hops are counted modulo the number of nodes.
 
 ghost use mathlib.Core.Path.{_≡_};
-ghost use Prim.Native.Nat.{_+_, _*_, _<_, _≤_};
+ghost use Prim.Native.Nat.{_+_, _*_, _<_};
 ghost use Rattle.lightpath.specs.Place.{placeOf, wavelengthOf, directionOf, sameDirection};
 ghost use Rattle.lightpath.specs.Circuit.{onRing, joins, ahead, hops, uses, adjacent, canShare, shareDirection};
 

@@ -1,13 +1,11 @@
 -- The moves of an answer: how many they are, and which stands at a position. Assumes nothing.
 use Prim.Native.Nat.{ℕ, _≤_, _<_}
-use mathlib.Core.Path.{_≡_, refl, sym}
-use mathlib.Core.List.{[], _∷_}
+use mathlib.Core.Path.{_≡_, sym}
 use native.Mathlib.Omega.{arith}
 use lib.ListN.{length, length-take, List·getD-eq-default}
 use lib.Seq.{getD-take}
-use Rattle.moves.specs.declared.Move.{Move}
 use Rattle.moves.specs.declared.Moves.{Moves}
-use Rattle.moves.specs.Records.{blank, none, one, two, three, listed, moveAt}
+use Rattle.moves.specs.Records.{blank, listed, moveAt}
 
 pub length-listed : (a : Moves) → a .count ≤ 3 → length (listed a) ≡ a .count
 length-listed a h = simp length-take (omega arith)
@@ -15,19 +13,8 @@ length-listed a h = simp length-take (omega arith)
 pub listed-most : (a : Moves) → length (listed a) ≤ 3
 listed-most a = simp length-take (omega arith)
 
-pub listed-none : listed none ≡ []
-listed-none = refl
-
-pub listed-one : (m : Move) → listed (one m) ≡ m ∷ []
-listed-one m = refl
-
-pub listed-two : (m n : Move) → listed (two m n) ≡ m ∷ n ∷ []
-listed-two m n = refl
-
-pub listed-three : (m n o : Move) → listed (three m n o) ≡ m ∷ n ∷ o ∷ []
-listed-three m n o = refl
-
-pub at-past : (a : Moves) (i : ℕ) → length (listed a) ≤ i → moveAt a i ≡ blank
+-- past the last move the record is blank
+at-past : (a : Moves) (i : ℕ) → length (listed a) ≤ i → moveAt a i ≡ blank
 at-past a i h = List·getD-eq-default (listed a) blank h
 
 -- the move at a position, by the tests that `Moves::at` makes

@@ -6,7 +6,7 @@ use Rattle.decode.proofs.map.may_stand.Statement.{statement}
 use Rattle.decode.proofs.map.may_stand.Tie as tie
 
 returns : tie.Need-returns
-returns c = search (needs, branch, not-said)
+returns c = search (needs, branch)
 
 is-lit-requires : tie.Need-is-lit-requires
 is-lit-requires c κs = search needs
