@@ -10,8 +10,6 @@ use borrow.Author.Tests.{leb-true, leb-false, lt-ltb, le-ltb, eq-eqb, ne-eqb}
 use Rattle.basis.specs.Choice.{bit}
 use Rattle.basis.specs.Count.{All}
 
--- ---- tests
-
 -- the first of two tests passes where both do
 pub and-left : (a b : Bool) → (a && b) ≡ true → a ≡ true
 and-left true b e = refl
@@ -65,8 +63,6 @@ bit-eq m n e = rw (eq-eqb m n e)
 -- and one that does not, 0
 pub bit-ne : (m n : ℕ) → (m ≡ n → ⊥) → bit (eqb m n) ≡ 0
 bit-ne m n h = rw (ne-eqb m n h)
-
--- ---- facts of every element
 
 -- what holds of two lists joined holds of the first
 pub all-left : {A : Type 0} (P : A → Type 0) (xs ys : List A) → All P (xs ++ ys) → All P xs

@@ -10,8 +10,6 @@ use Rattle.basis.specs.Count.{All}
 use Rattle.basis.specs.Search.{everyBelow, firstBelow, firstPlace}
 use Rattle.basis.proofs.Bools.{and-left, and-right, and-both}
 
--- ---- the numbers below n
-
 -- where every number below n passes, each does
 pub every-at : (n : ℕ) (f : ℕ → Bool) → everyBelow n f ≡ true → (p : ℕ) → p < n → f p ≡ true
 every-at zero f h p l = absurd (not-suc-le-zero l)
@@ -63,9 +61,7 @@ pub first-end : (n : ℕ) (f : ℕ → Bool) → ((q : ℕ) → q < n → f q �
 first-end zero f none = refl
 first-end (suc n) f none = rw (none 0 (omega arith)) (ap suc (first-end n (λ p. f (suc p)) (λ q k. none (suc q) (suc-le-suc k))))
 
--- ---- the elements of a list
-
--- the first that is found passes
+-- of a list too, the first that is found passes
 pub found-passes : {A : Type 0} (f : A → Bool) (d : A) (l : List A) → firstPlace f l < length l → f (getD l (firstPlace f l) d) ≡ true
 found-passes f d [] h = absurd (not-suc-le-zero h)
 found-passes f d (x ∷ xs) h = go (f x) refl (λ k. found-passes f d xs k)
@@ -86,7 +82,7 @@ pub at-all : {A : Type 0} (P : A → Type 0) (d : A) (l : List A) → ((i : ℕ)
 at-all P d [] h = tt
 at-all P d (x ∷ xs) h = (h 0 (omega arith), at-all P d xs (λ i k. h (suc i) (suc-le-suc k)))
 
--- where none is found, none passes
+-- where none is found in a list, none of it passes
 pub none-passes : {A : Type 0} (f : A → Bool) (l : List A) → (firstPlace f l < length l → ⊥) → All (λ x. f x ≡ false) l
 none-passes f [] h = tt
 none-passes f (x ∷ xs) h = go (f x) refl (λ k. none-passes f xs k)

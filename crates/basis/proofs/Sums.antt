@@ -9,9 +9,7 @@ use lib.ListN.{length, getD, replicate}
 use Rattle.basis.specs.Choice.{bit}
 use Rattle.basis.specs.Count.{tally, All, total}
 
--- ---- lists of numbers
-
--- the sum of two lists joined
+-- the sum of two lists of numbers joined
 pub total-append : (ks ls : List ℕ) → total (ks ++ ls) ≡ total ks + total ls
 total-append [] ls = omega arith
 total-append (k ∷ ks) ls = omega (arith, total-append ks ls)
@@ -20,8 +18,6 @@ total-append (k ∷ ks) ls = omega (arith, total-append ks ls)
 pub total-zeros : (n : ℕ) → total (replicate n 0) ≡ 0
 total-zeros zero = refl
 total-zeros (suc n) = omega (arith, total-zeros n)
-
--- ---- sums over the numbers below n
 
 -- f 0 + .. + f (n - 1)
 abbrev pub sumBelow : (ℕ → ℕ) → ℕ → ℕ

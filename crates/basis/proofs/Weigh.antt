@@ -12,8 +12,6 @@ use Rattle.basis.specs.Choice.{pick, bit}
 use Rattle.basis.specs.Count.{weigh, tally, distinct, All}
 use Rattle.basis.proofs.Bools.{and-left, and-right, and-both, bit-eq, bit-ne, all-map, all-and}
 
--- ---- weights
-
 -- the weight of two lists joined
 pub weigh-append : {A : Type 0} (w : A → ℕ) (xs ys : List A) → weigh w (xs ++ ys) ≡ weigh w xs + weigh w ys
 weigh-append w [] ys = omega arith
@@ -38,8 +36,6 @@ weigh-zero w (x ∷ xs) h = (omega arith, weigh-zero w xs (omega arith))
 pub bit-most : (b : Bool) → bit b ≤ 1
 bit-most true = omega arith
 bit-most false = omega arith
-
--- ---- distinct keys
 
 -- each element is counted under its key
 pub counted : {A : Type 0} (key : A → ℕ) (xs : List A) → All (λ x. 0 < tally key (key x) xs) xs
@@ -66,8 +62,6 @@ pub most-distinct : {A : Type 0} (key : A → ℕ) (xs : List A) → ((k : ℕ) 
 most-distinct key [] h = refl
 most-distinct key (x ∷ xs) h =
     and-both _ _ (eq-eqb (tally key (key x) xs) 0 (omega (arith, h (key x), bit-eq (key x) (key x) refl))) (most-distinct key xs (λ k. omega (arith, h k)))
-
--- ---- the elements of one key
 
 -- the weight of an element whose key is k, and nothing for the others
 abbrev pub keyed : {A : Type 0} → (A → ℕ) → ℕ → (A → ℕ) → A → ℕ

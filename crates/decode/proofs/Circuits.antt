@@ -22,8 +22,7 @@ use Rattle.decode.specs.Found.{RemarkAt}
 pub byte-at : (b : List ℕ) (i j : ℕ) → i < length b → i + 1 ≡ j → drop i b ≡ getD b i 0 ∷ drop j b
 byte-at b i j h e = let g : suc i ≡ j = omega arith in drop-cons b i 0 h ∙ ap (λ (k : ℕ). getD b i 0 ∷ drop k b) g
 
--- ---- a remark
-
+-- a remark whose two bytes are there
 two-there : (s : List ℕ) (x y : ℕ) → readRemark true (x ∷ y ∷ s) ≡ andThen ((BadField unless not (eqb (numberIn (x ∷ y ∷ [])) 0)) s) (λ u. give (numberIn (x ∷ y ∷ [])))
 unfolding readRemark
 two-there s x y = rw (le-leb 2 (length (x ∷ y ∷ s)) (omega arith))
@@ -50,8 +49,7 @@ module _ (b : List ℕ) (i : ℕ) (m : Bool) where
 
 pub ruleset remarkRules = (no-remark, remark-cut, remark-zero, remark-got)
 
--- ---- a circuit
-
+-- a circuit of which six bytes are not there is cut short
 short : (m : Bool) (s : List ℕ) → length s < 6 → readCircuit m s ≡ fault CutShort
 unfolding readCircuit
 short m [] h = refl
@@ -62,11 +60,13 @@ short m (x0 ∷ x1 ∷ x2 ∷ x3 ∷ []) h = refl
 short m (x0 ∷ x1 ∷ x2 ∷ x3 ∷ x4 ∷ []) h = refl
 short m (x0 ∷ x1 ∷ x2 ∷ x3 ∷ x4 ∷ x5 ∷ s) h = absurd (omega arith)
 
+-- they are there
 six-there : (m : Bool) (x0 x1 x2 x3 x4 x5 : ℕ) (s : List ℕ) → readCircuit m (x0 ∷ x1 ∷ x2 ∷ x3 ∷ x4 ∷ x5 ∷ s)
     ≡ andThen (readRemark m s) (λ r. give (record { number = numberIn (x0 ∷ x1 ∷ x2 ∷ x3 ∷ []); source = x4; destination = x5; remark = r }))
 unfolding readCircuit
 six-there m x0 x1 x2 x3 x4 x5 s = rw (le-leb 4 (length (x0 ∷ x1 ∷ x2 ∷ x3 ∷ x4 ∷ x5 ∷ s)) (omega arith))
 
+-- they stand at i
 six-at : (b : List ℕ) (i : ℕ) → i + 6 ≤ length b
     → drop i b ≡ getD b i 0 ∷ getD b (i + 1) 0 ∷ getD b (i + 2) 0 ∷ getD b (i + 3) 0 ∷ getD b (i + 4) 0 ∷ getD b (i + 5) 0 ∷ drop (i + 6) b
 six-at b i h =

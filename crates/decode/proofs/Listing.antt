@@ -17,10 +17,9 @@ use Rattle.decode.specs.declared.places.SlotRead.{SlotRead}
 use Rattle.decode.specs.declared.places.SlotRead.the-variants.{Got, Refused}
 use Rattle.decode.specs.Found.{SlotAt}
 
+-- the bit of a place, by another test
 pub place-same : (b s : List ℕ) (l m : Bool) (r : SlotRead) → l ≡ m → SlotAt b r (readPlace l s) → SlotAt b r (readPlace m s)
 place-same b s l m r e h = rw (← e) h
-
--- ---- the loop
 
 -- some channels before those that are read
 unfoldable pub after : Channels → Field Channels → Field Channels
@@ -73,12 +72,12 @@ module _ (lit : ℕ → Bool) (b : List ℕ) (start : ℕ) where
 
 pub ruleset listing = (listing-none, listing-next, listing-fault, listing-all)
 
--- ---- two maps that agree
-
+-- readers that agree after a field
 then-same : {A B : Type 0} (f : Field A) (g h : A → Reader B) → ((x : A) (s : List ℕ) → g x s ≡ h x s) → andThen f g ≡ andThen f h
 then-same (got x s) g h e = e x s
 then-same (fault n) g h e = refl
 
+-- maps that agree have the same records
 pub records-same : (f g : ℕ → Bool) (k p : ℕ) (s : List ℕ) → ((j : ℕ) → j < p + k → f j ≡ g j) → readRecords f k p s ≡ readRecords g k p s
 unfolding readRecords
 records-same f g zero p s h = refl

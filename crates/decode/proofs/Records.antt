@@ -18,13 +18,11 @@ use Rattle.decode.specs.declared.places.SlotRead.{SlotRead}
 use Rattle.decode.specs.Found.{CircuitAt, SlotAt}
 use Rattle.decode.proofs.Circuits.{byte-at}
 
--- ---- the field map
-
+-- a test that a call made, the other way
 pub not-said : (r b : Bool) → r ≡ b → not r ≡ not b
 not-said r b e = ap not e
 
--- ---- the second circuit
-
+-- the second circuit: none, refused, or read
 module _ (b : List ℕ) (i : ℕ) (a : Circuit) (second m : Bool) where
   pub no-second : not second ≡ true → readSecond a second m (drop i b) ≡ got (alone a) (drop i b)
   unfolding readSecond
@@ -44,8 +42,7 @@ module _ (b : List ℕ) (i : ℕ) (a : Circuit) (second m : Bool) where
 
 pub ruleset secondRules = (no-second, second-fault, second-got, second-within)
 
--- ---- a record
-
+-- a record: cut short, with a bad field map, or read circuit by circuit
 module _ (b : List ℕ) (i : ℕ) where
   pub record-cut : length b ≤ i → readRecord (drop i b) ≡ fault CutShort
   unfolding readRecord
@@ -75,8 +72,7 @@ module _ (b : List ℕ) (i : ℕ) where
 
 pub ruleset recordRules = (record-cut, map-bad, record-fault, first-within, record-got)
 
--- ---- a place
-
+-- a place has a record only where it is lit
 pub place-lit : (b s : List ℕ) (lit : Bool) (r : SlotRead) → lit ≡ true → SlotAt b r (readRecord s) → SlotAt b r (readPlace lit s)
 unfolding readPlace
 place-lit b s lit r e h = rw e h

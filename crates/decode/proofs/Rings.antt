@@ -18,9 +18,11 @@ use Rattle.form.specs.Reader.{fault, andThen, give, _unless_}
 use Rattle.form.specs.Reading.{answeredBy, readPorts}
 use Rattle.decode.specs.Begun.{ringBy}
 
+-- a refusal on the way is the answer
 pub ring-fault : (b : List ℕ) (n : Refusal) (r : Answered) → r ≡ answeredBy (fault n) → readPorts b ≡ fault n → r ≡ ringBy (readPorts b)
 ring-fault b n r e h = rw h e
 
+-- the first byte is not there, or is no number of nodes
 pub nodes-cut : (b : List ℕ) → length b < 1 → readPorts b ≡ fault CutShort
 unfolding readPorts
 nodes-cut [] h = refl
@@ -36,14 +38,13 @@ unfolding readPorts
 nodes-high [] h l g = absurd (omega arith)
 nodes-high (n ∷ b) h l g = rw (le-leb 3 n l, lt-leb n 64 g)
 
+-- the ports are not all there
 pub ports-cut : (b : List ℕ) → 1 ≤ length b → 3 ≤ getD b 0 0 → getD b 0 0 ≤ 64 → length b < 1 + getD b 0 0 → readPorts b ≡ fault CutShort
 unfolding readPorts
 ports-cut [] h l g k = absurd (omega arith)
 ports-cut (n ∷ b) h l g k = rw (le-leb 3 n l, le-leb n 64 g, lt-leb n (length b) (omega arith))
 
--- ---- the ports are there
-
--- making judges them as reading does
+-- making judges the ports as reading does
 made : (N : ℕ) (ks s : List ℕ) → 3 ≤ N → N ≤ 64 → length ks ≡ N
     → makeOf N ks ≡ ringBy (andThen ((PortCount unless eachAtMost 64 ks) s) (λ u. λ s. andThen ((PortSum unless leb (total ks) 192) s) (λ v. give ks)))
 unfolding makeOf
@@ -55,6 +56,7 @@ made N ks s l h e = go (eachAtMost 64 ks) (leb (total ks) 192) refl refl
     go true false x y = rw (le-leb 3 N l, le-leb N 64 h, eq-eqb (length ks) N e, x, y)
     go true true x y = rw (le-leb 3 N l, le-leb N 64 h, eq-eqb (length ks) N e, x, y, e)
 
+-- or they are
 pub ports-there : (b : List ℕ) (r : Answered) → 1 ≤ length b → 3 ≤ getD b 0 0 → getD b 0 0 ≤ 64 → 1 + getD b 0 0 ≤ length b
     → r ≡ makeOf (getD b 0 0) (take (1 + getD b 0 0 - 1) (drop 1 b)) → r ≡ ringBy (readPorts b)
 unfolding readPorts

@@ -35,8 +35,6 @@ pub answer-fault : (b : List ℕ) (n : Refusal) (r : Answered) → r ≡ answere
 unfolding readOf
 answer-fault b n r e h = e ∙ ap answeredBy (sym h)
 
--- ---- the ports
-
 -- a refused ring is the answer
 ring-fault-by : (b : List ℕ) (f : Field (List ℕ)) (r : Answered) (n : Refusal) → readPorts b ≡ f → r ≡ ringBy f → r .verdict ≡ refused n → r ≡ readOf b
 unfolding readOf readTable
@@ -105,8 +103,6 @@ module _ (b : List ℕ) (t : RingTable) (q : Ported b t) where
             table = q .table;
           }
 
--- ---- the records, and the end
-
 -- the table that the definition judges
 judged-is : (ks : List ℕ) (chs : Channels) → answeredBy (checked ks chs []) ≡ judgedTable (withChannels (freshTable (length ks) ks) chs)
 unfolding checked judgedTable
@@ -117,6 +113,7 @@ judged-is ks chs = go (meetsRules (withChannels (freshTable (length ks) ks) chs)
     go true e = rw e
     go false e = rw e
 
+-- the code's verdict on it
 pub judged-good : (t : RingTable) (v : Bool) → v ≡ meetsRules t → not v ≡ false → record { table = t; verdict = granted } ≡ judgedTable t
 unfolding judgedTable
 judged-good t v e h = rw (← e, not-false v h)
@@ -127,6 +124,7 @@ judged-bad t v r e h g = rw (← e, not-true v h) g
 
 pub ruleset judgedRules = (judged-good, judged-bad)
 
+-- the records: refused, followed by other bytes, or the last of the form
 module _ (b : List ℕ) (t : RingTable) (lit : Lit) (q : Mapped b t lit) (x : RecordsRead) (h : RecordsAt b x (readRecords (litBit lit) 128 0 (drop (17 + t .nodes) b))) where
   pub records-fault : (n : Refusal) → x .verdict ≡ refused n → readTable b ≡ fault n
   records-fault n e = q .read ∙ rw (rw e at h)

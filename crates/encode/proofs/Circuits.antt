@@ -11,8 +11,7 @@ use Rattle.form.specs.Form.{remarkBytes, circuitBytes}
 use Rattle.text.specs.Put.{Room, Put}
 use Rattle.encode.proofs.Chain.{Putting, start, first, then, done}
 
--- ---- numbers
-
+-- a number of two bytes, and one of four by its halves
 module _ (n : ℕ) (l : List ℕ) (i : ℕ) (h : Room l i (twoBytes n)) where
   two-begun : Putting l i (twoBytes n) l i (n / 256 ∷ []) ((n % 256 ∷ []) ∷ [])
   unfolding twoBytes
@@ -47,8 +46,7 @@ module _ (n : ℕ) (l : List ℕ) (i : ℕ) (h : Room l i (fourBytes n)) where
 
 pub ruleset fourRules = (higher-room, lower-room, four-put)
 
--- ---- a remark only where there is one
-
+-- a remark only where there is one
 module _ (r : ℕ) (l : List ℕ) (i : ℕ) where
   pub no-remark : r ≡ 0 → Put l i (remarkBytes r) l i
   unfolding remarkBytes
@@ -67,8 +65,7 @@ module _ (r : ℕ) (l : List ℕ) (i : ℕ) where
 
 pub ruleset remarkRules = (no-remark, remark-room, remark-put)
 
--- ---- a circuit
-
+-- a circuit: number, source, destination, remark
 module _ (c : Circuit) (l : List ℕ) (i : ℕ) (h : Room l i (circuitBytes c)) where
   circuit-begun : Putting l i (circuitBytes c) l i (fourBytes (c .number)) ((c .source ∷ []) ∷ (c .destination ∷ []) ∷ remarkBytes (c .remark) ∷ [])
   unfolding circuitBytes

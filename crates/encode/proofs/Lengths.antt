@@ -22,8 +22,7 @@ use Rattle.form.specs.Form.{mapBytes, remarkBytes, circuitBytes, recordBytes, r
 use Rattle.form.proofs.Words.{map-long}
 use Rattle.encode.specs.Words.{onesOf}
 
--- ---- a circuit and a place
-
+-- a circuit takes six bytes, and two more for a remark
 pub plain-long : (c : Circuit) → c .remark ≡ 0 → 6 ≡ length (circuitBytes c)
 unfolding circuitBytes fourBytes twoBytes remarkBytes
 plain-long c h = rw (eq-eqb (c .remark) 0 h)
@@ -32,6 +31,7 @@ pub remark-long : (c : Circuit) → (c .remark ≡ 0 → ⊥) → 8 ≡ length (
 unfolding circuitBytes fourBytes twoBytes remarkBytes
 remark-long c h = rw (ne-eqb (c .remark) 0 h)
 
+-- a record takes a byte more than its circuits, and an unlit place none
 pub unlit-long : (s : Slot) → s ≡ unlit → 0 + bit (isLit s) ≡ length (recordBytes s)
 unfolding recordBytes
 unlit-long s e = rw e
@@ -47,8 +47,7 @@ shared-long s a b n m e g h = rw e (omega (arith, length-append (circuitBytes a)
 
 pub ruleset lengths = (plain-long, remark-long, unlit-long, alone-long, shared-long)
 
--- ---- all places
-
+-- the ones of the words are the lit places
 ones-are : (chs : Channels) → length chs ≡ 128 → onesOf (litOf chs) ≡ litPlaces chs
 unfolding onesOf
 ones-are chs e = lit-places chs e
@@ -83,12 +82,12 @@ module _ (chs : Channels) where
 
 pub ruleset measured = (measured-none, measured-next, measured-all)
 
--- ---- the form
-
+-- the ones that were counted
 counted : (lit : Lit) (ones : ℕ) → ones ≡ countBelow 128 (litBit lit) → ones ≡ onesOf lit
 unfolding onesOf
 counted lit ones c = c
 
+-- the form is N, the ports, the map, a byte for each lit place and the circuits
 sum : (t : RingTable) (ones n : ℕ) → length (t .ports) ≡ 64 → t .nodes ≤ 64 → ones ≡ onesOf (litOf (t .channels))
     → n + onesOf (litOf (t .channels)) ≡ length (recordsBytes (t .channels)) → 17 + t .nodes + ones + n ≡ length (formOf t)
 unfolding formOf

@@ -18,8 +18,7 @@ use Rattle.form.specs.Form.{hasRemark, fieldMap, circuitBytes, recordBytes, rec
 use Rattle.text.specs.Put.{Room, Put}
 use Rattle.encode.proofs.Chain.{Putting, start, first, again, none, then, done}
 
--- ---- the field map
-
+-- the field map, from the marks of its circuits
 alone-map : (x : Bool) (n : ℕ) → n ≡ bit x → n ≡ fieldMap x false false
 unfolding fieldMap word
 alone-map x n e = omega (arith, e)
@@ -28,8 +27,7 @@ pub shared-map : (x y : Bool) (n m : ℕ) → n ≡ bit x → m ≡ bit y → n 
 unfolding fieldMap word
 shared-map x y n m e g = omega (arith, e, g)
 
--- ---- one record
-
+-- a record of one circuit
 module _ (a : Circuit) (m : ℕ) (g : m ≡ bit (hasRemark a)) (l : List ℕ) (i : ℕ) (h : Room l i (recordBytes (alone a))) where
   alone-begun : Putting l i (recordBytes (alone a)) l i (m ∷ []) (circuitBytes a ∷ [])
   unfolding recordBytes
@@ -47,6 +45,7 @@ module _ (a : Circuit) (m : ℕ) (g : m ≡ bit (hasRemark a)) (l : List ℕ) (i
 
 pub ruleset aloneRules = (mark-room, alone-room, alone-put)
 
+-- and of two
 module _ (a b : Circuit) (m : ℕ) (g : m ≡ fieldMap (hasRemark a) true (hasRemark b)) (l : List ℕ) (i : ℕ) (h : Room l i (recordBytes (shared a b))) where
   shared-begun : Putting l i (recordBytes (shared a b)) l i (m ∷ []) (circuitBytes a ∷ circuitBytes b ∷ [])
   unfolding recordBytes
@@ -68,6 +67,7 @@ module _ (a b : Circuit) (m : ℕ) (g : m ≡ fieldMap (hasRemark a) true (hasRe
 
 pub ruleset sharedRules = (map-room, first-room, second-room, shared-put)
 
+-- an unlit place has none
 pub unlit-put : (s : Slot) (l : List ℕ) (i : ℕ) → s ≡ unlit → Put l i (recordBytes s) l i
 unfolding recordBytes
 unlit-put s l i e = rw e (record { is = refl; end = rw add-zero })
@@ -80,9 +80,7 @@ record-put s x l i l1 n e h = rw e h
 
 pub ruleset recordRules = (unlit-put, record-room, record-put)
 
--- ---- the records
-
--- those of the places from p on are still to be written
+-- of the records, those of the places from p on are still to be written
 pub record Recording (l0 : List ℕ) (i0 : ℕ) (chs : Channels) (p : ℕ) (l : List ℕ) (i : ℕ) : Type 0 where
   pub putting : Putting l0 i0 (recordsBytes chs) l i (recordsBytes (drop p chs)) []
 

@@ -16,8 +16,7 @@ use Rattle.text.specs.Put.{Room, Put}
 use Rattle.encode.specs.Words.{lowFirst, wordsBytes}
 use Rattle.encode.proofs.Chain.{Putting, start, first, then, done}
 
--- ---- the map is the bytes of the words
-
+-- the map is the bytes of the words
 map-word : (f : ℕ → Bool) (k p : ℕ) → mapBytes f k p ≡ lowFirst k (word f (8 * k) p)
 unfolding mapBytes lowFirst
 map-word f zero p = refl
@@ -32,8 +31,6 @@ map-halves : (f : ℕ → Bool) → mapBytes f 16 0 ≡ mapBytes f 8 0 ++ mapByt
 unfolding mapBytes
 map-halves f = refl
 
--- ---- the parts of the form
-
 -- the ports of the nodes are there, and as many as the nodes
 pub ports-there : (n : ℕ) (ks : List ℕ) → n ≤ 64 → length ks ≡ 64 → n ≤ length ks
 ports-there n ks h e = omega arith
@@ -41,6 +38,7 @@ ports-there n ks h e = omega arith
 pub ports-count : (n : ℕ) (ks : List ℕ) → n ≤ 64 → length ks ≡ 64 → n ≡ length (take n ks)
 ports-count n ks h e = sym (length-take-le n ks (omega arith))
 
+-- the parts of the form, one after the other
 module _ (t : RingTable) (lit : Lit) (e : lit ≡ litOf (t .channels)) (l : List ℕ) (h : Room l 0 (formOf t)) where
   words-are : wordsBytes lit ≡ mapBytes (litAt (t .channels)) 16 0
   unfolding wordsBytes

@@ -8,9 +8,7 @@ use Rattle.text.specs.Put.{Room, Put}
 use Rattle.encode.specs.Words.{lowFirst, wordsBytes}
 use Rattle.encode.proofs.Chain.{Putting, start, first, again, none, then, done}
 
--- ---- the bytes of a word
-
--- those from j on, the bytes of what is left, are still to be written
+-- of the bytes of a word, those from j on, which are the bytes of rest, are still to be written
 pub record Wording (l0 : List ℕ) (i0 w j rest : ℕ) (l : List ℕ) (i : ℕ) : Type 0 where
   pub putting : Putting l0 i0 (lowFirst 8 w) l i (lowFirst (8 - j) rest) []
 
@@ -39,8 +37,7 @@ module _ (l0 : List ℕ) (i0 w : ℕ) where
 
 pub ruleset wording = (wording-none, wording-room, wording-next, wording-all)
 
--- ---- the two words
-
+-- the two words, the low one first
 module _ (lit : Lit) (l : List ℕ) (i : ℕ) (h : Room l i (wordsBytes lit)) where
   words-begun : Putting l i (wordsBytes lit) l i (lowFirst 8 (lit .low)) (lowFirst 8 (lit .high) ∷ [])
   unfolding wordsBytes

@@ -31,8 +31,7 @@ use Rattle.form.specs.Bytes.{fourBytes, twoBytes}
 use Rattle.form.specs.Form.{mapBytes, remarkBytes, circuitBytes, recordBytes, recordsBytes, portsBytes, formOf}
 use Rattle.form.proofs.Words.{map-long}
 
--- ---- the records
-
+-- a remark takes at most two bytes
 remark-by : (r : ℕ) (none : Bool) → length (pick none [] (twoBytes r)) ≤ 2
 unfolding twoBytes
 remark-by r true = omega arith
@@ -43,20 +42,21 @@ circuit-most : (c : Circuit) → length (circuitBytes c) ≤ 8
 unfolding circuitBytes fourBytes twoBytes remarkBytes
 circuit-most c = omega (arith, remark-by (c .remark) (eqb (c .remark) 0))
 
+-- a record one more than its circuits
 record-most : (s : Slot) → length (recordBytes s) ≤ 1 + 8 * length (held s)
 unfolding recordBytes
 record-most unlit = omega arith
 record-most (alone a) = omega (arith, circuit-most a)
 record-most (shared a b) = omega (arith, circuit-most a, circuit-most b, length-append (circuitBytes a) (circuitBytes b))
 
+-- so the records take at most a byte for each place and eight for each circuit
 records-most : (chs : Channels) → length (recordsBytes chs) ≤ length chs + 8 * length (circuits chs)
 unfolding recordsBytes
 records-most [] = omega arith
 records-most (ch ∷ chs) =
     omega (arith, record-most (ch .slot), records-most chs, length-append (recordBytes (ch .slot)) (recordsBytes chs), length-append (held (ch .slot)) (circuits chs))
 
--- ---- the circuits
-
+-- every source is on the ring
 sources : (N : ℕ) (u : List Slot) → All (λ s. ends N s ≡ true) u → All (λ c. (1 ≤ c .source) × (c .source ≤ N)) (allHeld u)
 sources N [] h = tt
 sources N (unlit ∷ u) h = sources N u (h .1)
@@ -66,7 +66,7 @@ sources N (shared a b ∷ u) h =
     let p = on-ring N b (and-right (joins N a) _ (h .0)) in
     ((o .sourceLow, o .sourceHigh), ((p .sourceLow, p .sourceHigh), sources N u (h .1)))
 
--- each circuit has a transmitter
+-- there are at most 192 circuits: each has a transmitter
 circuits-most : (N : ℕ) (ks : List ℕ) (t : Channels) → Rules N ks t → length (circuits t) ≤ 192
 circuits-most N ks t r =
     let l = limits-hold N ks t r in
@@ -76,8 +76,7 @@ circuits-most N ks t r =
     let s = all-map (λ c. (1 ≤ c .source) × (c .source ≤ N)) (λ c. (1 ≤ c .source) × (c .source ≤ length ks)) (λ c h. omega (arith, l .most, l .fields)) (circuits t) (sources N (slots t) e) in
     omega (arith, by-nodes (λ c. c .source) (length ks) (circuits t) s, sum-le (λ j. sends (suc j) (circuits t)) ks (λ j h. r .ports j h .0))
 
--- ---- the form
-
+-- a form has at most 1,745 bytes
 pub form-most : (t : RingTable) → meetsRules t ≡ true → length (formOf t) ≤ 1745
 unfolding formOf
 form-most t m =

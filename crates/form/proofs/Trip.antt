@@ -20,8 +20,7 @@ use Rattle.form.specs.Reader.{got, bytes}
 use Rattle.form.specs.Reading.{readRemark, readCircuit, readSecond, readRecord, readPlace, readRecords}
 use Rattle.form.proofs.FieldMap.{map-holds, map-bit0, map-bit1, map-bit2}
 
--- ---- numbers
-
+-- numbers are read back
 four-back : (n : ℕ) (s : List ℕ) → bytes 4 (fourBytes n ++ s) ≡ got (fourBytes n) s
 unfolding fourBytes twoBytes
 four-back n s = rw (le-leb 4 (length (fourBytes n ++ s)) (omega arith))
@@ -38,8 +37,7 @@ two-number : (n : ℕ) → numberIn (twoBytes n) ≡ n
 unfolding twoBytes numberFrom
 two-number n = omega arith
 
--- ---- a circuit
-
+-- a remark is, where it is not 0
 remark-by : (r : ℕ) (s : List ℕ) (none : Bool) → eqb r 0 ≡ none → readRemark (not none) (remarkBytes r ++ s) ≡ got r s
 unfolding readRemark remarkBytes
 remark-by r s true e = rw e (ap (λ (n : ℕ). got n s) (sym (eqb-true r 0 e)))
@@ -48,12 +46,12 @@ remark-by r s false e = rw (e, two-back r s, two-number, e)
 remark-back : (r : ℕ) (s : List ℕ) → readRemark (not (eqb r 0)) (remarkBytes r ++ s) ≡ got r s
 remark-back r s = remark-by r s (eqb r 0) refl
 
+-- a circuit is
 circuit-back : (c : Circuit) (s : List ℕ) → readCircuit (hasRemark c) (circuitBytes c ++ s) ≡ got c s
 unfolding readCircuit circuitBytes
 circuit-back c s = rw (append-assoc, four-back (c .number) (c .source ∷ c .destination ∷ remarkBytes (c .remark) ++ s), remark-back (c .remark) s, four-number)
 
--- ---- a record
-
+-- a record is, of one circuit and of two
 alone-back : (a : Circuit) (s : List ℕ) → readRecord (fieldMap (hasRemark a) false false ∷ circuitBytes a ++ s) ≡ got (alone a) s
 unfolding readRecord readSecond
 alone-back a s =
@@ -67,13 +65,14 @@ shared-back a b s =
     let y : Bool = hasRemark b in
     rw (map-holds x true y refl, map-bit0 x true y, map-bit1 x true y, map-bit2 x true y, circuit-back a (circuitBytes b ++ s), circuit-back b s)
 
+-- a place is, lit or not
 place-back : (x : Slot) (s : List ℕ) → readPlace (isLit x) (recordBytes x ++ s) ≡ got x s
 unfolding readPlace recordBytes
 place-back unlit s = refl
 place-back (alone a) s = alone-back a s
 place-back (shared a b) s = rw append-assoc (shared-back a b s)
 
--- the records of all places, where lit says which of them are lit
+-- the records of all places are, where lit says which of them are lit
 pub records-back : (lit : ℕ → Bool) (chs : Channels) (p : ℕ) (s : List ℕ) → ((j : ℕ) → j < length chs → lit (p + j) ≡ litAt chs j)
     → readRecords lit (length chs) p (recordsBytes chs ++ s) ≡ got chs s
 unfolding readRecords recordsBytes

@@ -22,8 +22,7 @@ use Rattle.form.specs.Reading.{readRemark, readCircuit, mapHolds, readSe
 use Rattle.form.proofs.FieldMap.{map-is, second-absent}
 use Rattle.form.proofs.Fields.{Holds, then-holds, unless-holds, AreBytes, Wrote, wrote, byte-wrote, bytes-wrote}
 
--- ---- numbers
-
+-- bytes are those of their number
 two-is : (v : List ℕ) → AreBytes v → length v ≡ 2 → twoBytes (numberIn v) ≡ v
 unfolding twoBytes numberFrom
 two-is [] h e = absurd (omega arith)
@@ -50,8 +49,7 @@ four-is (x ∷ y ∷ z ∷ w ∷ []) h e =
     rw (a, b, c, d)
 four-is (x ∷ y ∷ z ∷ w ∷ u ∷ v) h e = absurd (omega arith)
 
--- ---- a circuit
-
+-- a remark that is read is the one written, and its bit says whether there is one
 remark-wrote : (m : Bool) (s : List ℕ) → AreBytes s → Holds (λ x r. Wrote remarkBytes s x r × (not (eqb x 0) ≡ m)) (readRemark m s)
 unfolding readRemark remarkBytes
 remark-wrote false s h = (wrote remarkBytes s 0 s h refl, refl)
@@ -60,6 +58,7 @@ remark-wrote true s h =
     unless-holds _ BadField (not (eqb (numberIn v) 0)) r _ λ t.
     (wrote remarkBytes s (numberIn v) r h (rw (not-true (eqb (numberIn v) 0) t, two-is v (q .0 .front) (q .1)) (q .0 .is)), t)
 
+-- so is a circuit
 circuit-wrote : (m : Bool) (s : List ℕ) → AreBytes s → Holds (λ c r. Wrote circuitBytes s c r × (hasRemark c ≡ m)) (readCircuit m s)
 unfolding readCircuit circuitBytes
 circuit-wrote m s h =
@@ -72,8 +71,7 @@ circuit-wrote m s h =
       q4 .1,
     )
 
--- ---- a record
-
+-- a record that is read is the one written of its circuits
 second-wrote : (m : ℕ) (s : List ℕ) (a : Circuit) (s2 : List ℕ) → AreBytes s → AreBytes s2 → s ≡ m ∷ (circuitBytes a ++ s2) → mapHolds m ≡ true → hasRemark a ≡ bitOf m 0
     → (second : Bool) → bitOf m 1 ≡ second → Holds (λ x r. Wrote recordBytes s x r × (isLit x ≡ true)) (readSecond a second (bitOf m 2) s2)
 unfolding readSecond recordBytes
@@ -93,12 +91,11 @@ record-wrote s h =
     then-holds _ _ (readCircuit (bitOf m 0) s1) _ (circuit-wrote (bitOf m 0) s1 (q .rest)) λ a s2 q2.
     second-wrote m s a s2 h (q2 .0 .rest) (rw (← q2 .0 .is) (q .is)) t (q2 .1) (bitOf m 1) refl
 
+-- so is a place, lit or not
 place-wrote : (l : Bool) (s : List ℕ) → AreBytes s → Holds (λ x r. Wrote recordBytes s x r × (isLit x ≡ l)) (readPlace l s)
 unfolding readPlace recordBytes
 place-wrote false s h = (wrote recordBytes s unlit s h refl, refl)
 place-wrote true s h = record-wrote s h
-
--- ---- the records
 
 -- k channels, whose lit ones are as lit says from p on, are those that the bytes s give before r
 pub record Listed (lit : ℕ → Bool) (k p : ℕ) (s : List ℕ) (chs : Channels) (r : List ℕ) : Type 0 where
@@ -106,11 +103,13 @@ pub record Listed (lit : ℕ → Bool) (k p : ℕ) (s : List ℕ) (chs : Channel
   pub long : length chs ≡ k
   pub says : (j : ℕ) → j < k → litAt chs j ≡ lit (p + j)
 
+-- one place more
 says-more : (lit : ℕ → Bool) (k p : ℕ) (x : Slot) (chs : Channels) → isLit x ≡ lit p → ((j : ℕ) → j < k → litAt chs j ≡ lit (suc p + j))
     → (j : ℕ) → j < suc k → litAt (record { slot = x } ∷ chs) j ≡ lit (p + j)
 says-more lit k p x chs e h zero l = rw add-zero e
 says-more lit k p x chs e h (suc j) l = rw (add-suc, ← suc-add) (h j (omega arith))
 
+-- the records that are read are those written
 pub records-wrote : (lit : ℕ → Bool) (k p : ℕ) (s : List ℕ) → AreBytes s → Holds (Listed lit k p s) (readRecords lit k p s)
 unfolding readRecords recordsBytes
 records-wrote lit zero p s h = record { wrote = wrote recordsBytes s [] s h refl; long = refl; says = λ j l. absurd (omega arith) }

@@ -29,11 +29,11 @@ use Rattle.form.proofs.Trip.{records-back}
 use Rattle.form.proofs.Fields.{Holds, then-holds, then-any, unless-holds, AreBytes, Wrote, byte-is, bytes-are, bytes-wrote}
 use Rattle.form.proofs.Unique.{Listed, records-wrote}
 
--- ---- written and read back
-
+-- a field of n bytes is read back
 bytes-back : (v s : List ℕ) (n : ℕ) → length v ≡ n → bytes n (v ++ s) ≡ got v s
 bytes-back v s n e = rw (le-leb n (length (v ++ s)) (omega (arith, length-append v s)), take-at v s n e, drop-at v s n e)
 
+-- so are the ports, where each and their sum are in their limits
 ports-back : (N : ℕ) (ks s : List ℕ) → 3 ≤ N → N ≤ 64 → length ks ≡ N → eachAtMost 64 ks ≡ true → total ks ≤ 192 → readPorts (N ∷ (ks ++ s)) ≡ got ks s
 unfolding readPorts
 ports-back N ks s l h e m t = rw (le-leb 3 N l, le-leb N 64 h, bytes-back ks s N e, m, le-leb (total ks) 192 t)
@@ -47,14 +47,17 @@ unlit-written lit limit h = at-every 128 (λ p. ltb p limit || not (mapBit (mapB
     go p l true e = rw e
     go p l false e = rw (e, map-says lit p l) (h p l (ltb-false p limit e))
 
+-- and is read back
 map-back : (lit : ℕ → Bool) (limit : ℕ) (s : List ℕ) → ((p : ℕ) → p < 128 → limit ≤ p → not (lit p) ≡ true) → readMap limit (mapBytes lit 16 0 ++ s) ≡ got (mapBytes lit 16 0) s
 unfolding readMap
 map-back lit limit s h = rw (bytes-back (mapBytes lit 16 0) s 16 (map-long lit 16 0), unlit-written lit limit h)
 
+-- the table that is checked is the one written
 checked-back : (t : RingTable) (ks : List ℕ) → meetsRules t ≡ true → length ks ≡ t .nodes → ks ++ replicate (64 - t .nodes) 0 ≡ t .ports → checked ks (t .channels) [] ≡ got t []
 unfolding checked
 checked-back t ks m e p = rw (e, p, m)
 
+-- a table that meets the ring rules is read back from its form
 pub table-back : (t : RingTable) → meetsRules t ≡ true → readTable (formOf t) ≡ got t []
 unfolding readTable formOf
 table-back t m =
@@ -75,8 +78,6 @@ table-back t m =
       checked-back t (portsBytes t) m count ports,
     )
 
--- ---- read and written back
-
 -- the ports of the nodes stand after their number
 pub ports-are : (s : List ℕ) → Holds (λ ks r. s ≡ length ks ∷ (ks ++ r)) (readPorts s)
 unfolding readPorts
@@ -88,6 +89,7 @@ ports-are s =
     unless-holds _ PortSum (leb (total ks) 192) s2 _ λ c.
     rw (q .1, ← q .0) e
 
+-- the map is the next 16 bytes
 map-wrote : (limit : ℕ) (s : List ℕ) → AreBytes s → Holds (λ m r. Wrote (λ m. m) s m r × (length m ≡ 16)) (readMap limit s)
 unfolding readMap
 map-wrote limit s h =
@@ -95,10 +97,12 @@ map-wrote limit s h =
     unless-holds _ BadField (noneLitFrom limit (mapBit m)) r _ λ a.
     q
 
+-- nothing stands after the end
 end-empty : (s : List ℕ) → Holds (λ u r. s ≡ []) (end s)
 end-empty [] = refl
 end-empty (x ∷ s) = tt
 
+-- those parts are the form of the table read
 form-is : (s ks m s1 s2 : List ℕ) (chs : Channels) → s ≡ length ks ∷ (ks ++ s1) → Wrote (λ m. m) s1 m s2 → length m ≡ 16 → Listed (mapBit m) 128 0 s2 chs []
     → formOf (withChannels (freshTable (length ks) ks) chs) ≡ s
 unfolding formOf
@@ -108,6 +112,7 @@ form-is s ks m s1 s2 chs p q e l =
     let r : recordsBytes chs ≡ s2 = sym (l .wrote .is ∙ append-nil (recordsBytes chs)) in
     rw (k, w, r, p, q .is)
 
+-- the form of a table that is read is the bytes read
 pub table-wrote : (s : List ℕ) → AreBytes s → Holds (λ t r. formOf t ≡ s) (readTable s)
 unfolding readTable checked
 table-wrote s h =

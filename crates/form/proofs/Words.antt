@@ -14,8 +14,6 @@ use Rattle.channels.proofs.Bits.{word-bit}
 use Rattle.form.specs.Form.{mapBytes}
 use Rattle.form.specs.Reading.{mapBit}
 
--- ---- words
-
 -- a binary digit is the bit of the test that it is 1
 pub digit : (x : ℕ) → x < 2 → bit (eqb x 1) ≡ x
 digit zero h = refl
@@ -40,13 +38,13 @@ low-byte f k i =
     let g : 8 + i ≡ suc (suc (suc (suc (suc (suc (suc (suc i))))))) = omega arith in
     rw (e, g) (omega arith)
 
--- ---- the map
-
+-- the map has as many bytes as it is asked for
 pub map-long : (lit : ℕ → Bool) (k p : ℕ) → length (mapBytes lit k p) ≡ k
 unfolding mapBytes
 map-long lit zero p = refl
 map-long lit (suc k) p = ap suc (map-long lit k (8 + p))
 
+-- byte j is the word of its eight places
 map-byte : (lit : ℕ → Bool) (k p j : ℕ) → j < k → getD (mapBytes lit k p) j 0 ≡ word lit 8 (8 * j + p)
 unfolding mapBytes
 map-byte lit zero p j h = absurd (not-suc-le-zero h)
@@ -60,6 +58,7 @@ map-says lit p h =
     let e : 8 * (p / 8) + 0 + p % 8 ≡ p = omega arith in
     rw (map-byte lit 16 0 (p / 8) (omega arith), word-bit lit 8 (8 * (p / 8) + 0) (p % 8) (omega arith), e)
 
+-- the first byte is the first eight places, and the others follow
 low-bits : (x : ℕ) (m : List ℕ) (b : ℕ) → b < 8 → mapBit (x ∷ m) b ≡ bitOf x b
 unfolding mapBit
 low-bits x m b h =

@@ -17,14 +17,12 @@ use Rattle.channels.specs.declared.Slot.the-variants.{Alone as alone, Shared as
 use Rattle.channels.specs.Channels.{Channels, at}
 use Rattle.load.specs.Load.{lightpathsBelow, users, linkLoad}
 
--- ---- the circuits of one place
-
--- a test as a byte
+-- a test as a byte is at most 1
 pub byte-most : (x : Bool) → boolByte x ≤ 1
 byte-most true = omega arith
 byte-most false = omega arith
 
--- n of them use the link, which are at most two
+-- n of the circuits of a place use the link, which are at most two
 abbrev pub Counts : ℕ → Direction → ℕ → Slot → ℕ → Type 0
 Counts N d l s n = (n ≡ users N d l (held s)) × (n ≤ 2)
 
@@ -43,8 +41,6 @@ module _ (N : ℕ) (d : Direction) (l : ℕ) (s : Slot) where
   counts-two a b true false e u v = rw (e, ← u, ← v) (omega arith, omega arith)
   counts-two a b false true e u v = rw (e, ← u, ← v) (omega arith, omega arith)
   counts-two a b false false e u v = rw (e, ← u, ← v) (omega arith, omega arith)
-
--- ---- the wavelengths below a bound
 
 -- n lightpaths of direction d on the wavelengths below w use link l
 pub record Counted (N : ℕ) (t : Channels) (d : Direction) (l w n : ℕ) : Type 0 where

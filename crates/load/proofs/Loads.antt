@@ -26,8 +26,7 @@ use Rattle.ring.specs.Table.{meetsRules}
 use Rattle.ring.specs.declared.RingTable.{RingTable}
 use Rattle.load.specs.Load.{lightpathsBelow, users, linkLoad, loadsTo, loads}
 
--- ---- the lightpaths over link l in direction d
-
+-- the lightpaths over link l in direction d
 module _ (N : ℕ) (ks : List ℕ) (t : Channels) (rules : Rules N ks t) (d : Direction) (l : ℕ) (low : 1 ≤ l) (high : l ≤ N) where
   -- those of one wavelength, and those of the wavelengths below a bound
   abbrev on : ℕ → ℕ
@@ -59,6 +58,7 @@ module _ (N : ℕ) (ks : List ℕ) (t : Channels) (rules : Rules N ks t) (d : Di
       dark (alone a) e = cc
       dark (shared a b) e = cc
 
+  -- one wavelength more
   below-suc : (n : ℕ) → below (suc n) ≡ below n + on n
   unfolding users lightpathsBelow
   below-suc n = weigh-append (λ c. bit (uses N d c l)) (lightpathsBelow n t d) (held (at t (placeOf n d)))
@@ -77,9 +77,7 @@ module _ (N : ℕ) (ks : List ℕ) (t : Channels) (rules : Rules N ks t) (d : Di
   pub load-most : linkLoad N t d l ≤ wavelengths ks
   load-most = below-most 64 (omega arith) .1
 
--- ---- the report
-
--- each of its bytes is at most W
+-- each byte of the report is at most W
 pub loads-most : (t : RingTable) → meetsRules t ≡ true → All (λ b. b ≤ wavelengths (t .ports)) (loads (t .nodes) (t .channels))
 unfolding loadsTo
 loads-most t meets = upTo (t .nodes) (omega arith)

@@ -18,8 +18,7 @@ use Rattle.ring.specs.declared.Refusal.the-variants.{OffRing, NoWavelength, NoD
 use Rattle.ring.specs.declared.Verdict.the-variants.{Granted as granted, Refused as refused}
 use Rattle.monitor.specs.Link.{refusalOf, way, circuitOn, linkCauses, linkVerdict, linkOf, Asked}
 
--- ---- the verdict, from the tests as they stand in the code
-
+-- the verdict, from the tests as they stand in the code
 module _ (t : RingTable) (l w d : ℕ) (r : Bool) (e : r ≡ onRing (t .nodes) l) where
   -- the link is not 1 to N
   pub no-link : not r ≡ true → refused OffRing ≡ linkVerdict t l w d
@@ -44,8 +43,7 @@ module _ (t : RingTable) (l w d : ℕ) (r : Bool) (e : r ≡ onRing (t .nodes) l
 
 pub ruleset judging = (no-link, no-wavelength, no-direction, no-cause)
 
--- ---- the answer, from the verdict
-
+-- the answer, from the verdict
 module _ (t : RingTable) (l w d : ℕ) (v : Verdict) (e : v ≡ linkVerdict t l w d) where
   -- a question that is granted asks for what is there
   pub asked : meetsRules t ≡ true → v ≡ granted → Asked t l w

@@ -24,8 +24,7 @@ use Rattle.monitor.specs.Link.{none, refusalOf, linkOf}
 use Rattle.monitor.specs.Question.{ringLink}
 use Rattle.monitor.proofs.Runs.{one-runs, answer-runs, answer-none}
 
--- ---- the answer, from what was read
-
+-- the answer, from what was read
 module _ (form : List ℕ) (a : Answered) (e : a ≡ readOf form) where
   -- a form that is accepted gives a table that meets the rules
   pub accepted-meets : a .verdict ≡ granted → meetsRules (a .table) ≡ true
@@ -41,8 +40,7 @@ module _ (form : List ℕ) (a : Answered) (e : a ≡ readOf form) where
   unfolding ringLink
   form-refused l w d x r g h = rw (← e, g) h
 
--- ---- which circuit it is
-
+-- which circuit it is, of those at the place of wavelength w in direction d
 module _ (form : List ℕ) (accepted : readOf form .verdict ≡ granted) (l w : ℕ) (d : Direction) (low : 1 ≤ l)
     (high : l ≤ readOf form .table .nodes) (below : w < wavelengths (readOf form .table .ports)) where
   abbrev t : RingTable

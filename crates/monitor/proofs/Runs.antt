@@ -25,8 +25,7 @@ use Rattle.ring.specs.Table.{meetsRules}
 use Rattle.ring.specs.declared.RingTable.{RingTable}
 use Rattle.monitor.specs.Link.{none, running, circuitOn, linkVerdict, linkOf}
 
--- ---- some circuits, lightpaths in direction d, and link l
-
+-- some circuits, lightpaths in direction d, and link l
 module _ (N : ℕ) (d : Direction) (l : ℕ) where
   -- the number found is that of each that uses the link, where at most one does
   running-each : (cs : List Circuit) → weigh (λ c. bit (uses N d c l)) cs ≤ 1 → All (λ c. uses N d c l ≡ true → running N d l cs ≡ c .number) cs
@@ -54,8 +53,7 @@ module _ (N : ℕ) (d : Direction) (l : ℕ) where
   running-none [] h = refl
   running-none (x ∷ xs) h = rw (h .0) (running-none xs (h .1))
 
--- ---- the circuits at the place of wavelength w in direction d
-
+-- the circuits at the place of wavelength w in direction d
 module _ (t : RingTable) (meets : meetsRules t ≡ true) (l w : ℕ) (d : Direction) (low : 1 ≤ l) (high : l ≤ t .nodes) where
   abbrev there : List Circuit
   there = held (at (t .channels) (placeOf w d))

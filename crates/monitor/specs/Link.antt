@@ -46,9 +46,11 @@ abbrev pub linkCauses : RingTable → ℕ → ℕ → ℕ → List Cause
 linkCauses t l w d =
     (OffRing if not (onRing (t .nodes) l)) ∷ (NoWavelength if not (ltb w (wavelengths (t .ports)))) ∷ (NoDirection if not (ltb d 2)) ∷ []
 
+-- the first of these that holds refuses the question
 unfoldable pub linkVerdict : RingTable → ℕ → ℕ → ℕ → Verdict
 linkVerdict t l w d = judged (linkCauses t l w d)
 
+-- one that is not refused is answered with the circuit there
 abbrev pub linkBy : RingTable → ℕ → ℕ → ℕ → Verdict → ℕ
 linkBy t l w d granted = circuitOn t l w (way d)
 linkBy t l w d (refused r) = refusalOf r

@@ -8,6 +8,7 @@ use Rattle.ring.specs.declared.Verdict.{Verdict}
 use Rattle.ring.specs.declared.Verdict.the-variants.{Granted as granted, Refused as refused}
 use Rattle.monitor.specs.Link.{refusalOf, linkOf}
 
+-- the question of the table that was read, or the form's own refusal
 abbrev pub askedBy : RingTable → ℕ → ℕ → ℕ → Verdict → ℕ
 askedBy t l w d granted = linkOf t l w d
 askedBy t l w d (refused r) = refusalOf r

@@ -7,9 +7,11 @@ use lib.Seq.{getD-take}
 use Rattle.moves.specs.declared.Moves.{Moves}
 use Rattle.moves.specs.Records.{blank, listed, moveAt}
 
+-- an answer that counts at most three moves lists as many as it counts
 pub length-listed : (a : Moves) → a .count ≤ 3 → length (listed a) ≡ a .count
 length-listed a h = simp length-take (omega arith)
 
+-- no answer lists more than three
 pub listed-most : (a : Moves) → length (listed a) ≤ 3
 listed-most a = simp length-take (omega arith)
 

@@ -26,8 +26,7 @@ module _ (P : ℕ → Type 0) (small : (n : ℕ) → n < 10 → P n) (large : (n
   by-digits : (n : ℕ) → P n
   by-digits n = up-to n n (omega arith)
 
--- ---- there and back
-
+-- the byte of a digit is one
 digit-is : (d : ℕ) → d < 10 → isDigit (48 + d) ≡ true
 digit-is d h = rw (le-leb 48 (48 + d) (omega arith), le-leb (48 + d) 57 (omega arith))
 
@@ -49,8 +48,6 @@ read-back limit =
 pub there-and-back : (limit n : ℕ) → n < limit → number limit (decimal n) ≡ Got n
 unfolding numberAfter
 there-and-back limit n h = rw (← append-nil (decimal n)) (read-back limit n [] ∙ rw (lt-ltb n limit h))
-
--- ---- lengths
 
 -- a number below 10 ^ (m + 1) has at most m + 1 digits
 pub decimal-short : (m n : ℕ) → n < 10 ^ suc m → length (decimal n) ≤ suc m

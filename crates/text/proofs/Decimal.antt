@@ -10,8 +10,6 @@ use Rattle.text.specs.Put.{Put, Room}
 use Rattle.text.specs.Decimal.{digitsUpTo, decimal}
 use Rattle.text.proofs.Put.{put-put, room-front, room-rest}
 
--- ---- the last digit
-
 -- any count that suffices gives the same digits
 enough : (k j n : ℕ) → n ≤ k → n ≤ j → digitsUpTo k n ≡ digitsUpTo j n
 unfolding digitsUpTo
@@ -24,18 +22,19 @@ enough (suc k) (suc j) n h g = go (ltb n 10) refl (λ l. enough k j (n / 10) (om
     go true e ih = rw e
     go false e ih = rw (e, ih (ltb-false n 10 e))
 
+-- a number below 10 is one digit
 pub decimal-small : (n : ℕ) → n < 10 → decimal n ≡ (48 + n) ∷ []
 unfolding decimal digitsUpTo
 decimal-small zero h = refl
 decimal-small (suc n) h = rw (lt-ltb (suc n) 10 h)
 
+-- any other is the digits of its tenth, and then its last
 pub decimal-large : (n : ℕ) → 10 ≤ n → decimal n ≡ decimal (n / 10) ++ ((48 + n % 10) ∷ [])
 unfolding decimal digitsUpTo
 decimal-large zero h = absurd (omega arith)
 decimal-large (suc n) h = rw (le-ltb (suc n) 10 h, enough n (suc n / 10) (suc n / 10) (omega arith) (omega arith))
 
--- ---- their writing
-
+-- room for the digits, and their writing: one, or those before the last and then the last
 module _ (l : List ℕ) (i n : ℕ) where
   pub small-room : n < 10 → Room l i (decimal n) → Room l i ((48 + n) ∷ [])
   small-room h r = rw (decimal-small n h) at r

@@ -9,9 +9,7 @@ use lib.ListN.{length, drop, getD, set, length-set, length-append, drop-of-lengt
 use lib.Seq.{sets, length-sets, drop-cons}
 use Rattle.text.specs.Put.{Put, Room}
 
--- ---- two writes
-
--- one after another they are one write of both texts
+-- two writes one after another are one write of both texts
 sets-append : (vs ws l : List ℕ) (i : ℕ) → sets l i (vs ++ ws) ≡ sets (sets l i vs) (i + length vs) ws
 sets-append [] ws l i = rw add-zero
 sets-append (v ∷ vs) ws l i = sets-append vs ws (set l i v) (suc i) ∙ rw (suc-add, ← add-suc)
@@ -26,6 +24,7 @@ put-put {l} {l1} {l2} {vs} {ws} {i} {j} {k} p q =
       end = omega (arith, q .end, p .end, length-append vs ws);
     }
 
+-- a write keeps the length
 pub put-length : {l vs l′ : List ℕ} {i n : ℕ} → Put l i vs l′ n → length l′ ≡ length l
 put-length {l} {vs} {l′} {i} q = ap length (q .is) ∙ length-sets l i vs
 
@@ -36,9 +35,7 @@ room-front vs ws e h = record { fits = omega (arith, h .fits, ap length e, lengt
 pub room-rest : {l l1 us : List ℕ} {i n : ℕ} (vs ws : List ℕ) → us ≡ vs ++ ws → Room l i us → Put l i vs l1 n → Room l1 n ws
 room-rest vs ws e h q = record { fits = omega (arith, h .fits, ap length e, length-append vs ws, q .end, put-length q) }
 
--- ---- copying a text
-
--- of the text, the bytes from j on are still to be written
+-- of the text that is copied, the bytes from j on are still to be written
 pub record Copying (l0 : List ℕ) (start : ℕ) (text : List ℕ) (l : List ℕ) (i j : ℕ) : Type 0 where
   pub is : sets l0 start text ≡ sets l i (drop j text)
   pub end : start + j ≡ i

@@ -66,9 +66,7 @@ module _ (most : ℕ) (word : List ℕ) (v i : ℕ) (q : Reading most word v i) 
 
 pub ruleset reading = (no-digit, reading-none, reading-end, reading-low, reading-high, reading-wide, reading-next)
 
--- ---- a number that was read
-
--- it is below the limit, and has a digit
+-- a number that was read is below the limit, and has a digit
 after-small : (limit v : ℕ) (s : List ℕ) (n : ℕ) → numberAfter limit v s ≡ Got n → n < limit
 unfolding numberAfter
 after-small limit v [] n e = go (ltb v limit) refl
