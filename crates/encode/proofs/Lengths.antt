@@ -5,7 +5,7 @@ use mathlib.Core.List.{List, [], _∷_, _++_}
 use native.Mathlib.Numerals.{add-one}
 use native.Mathlib.Omega.{arith}
 use lib.ListN.{length, getD, drop, length-append, drop-of-length-le}
-use lib.Seq.{drop-cons, length-take-le}
+use lib.Seq.{drop-cons}
 use borrow.Author.Tests.{eq-eqb, ne-eqb}
 use Rattle.basis.specs.Choice.{bit}
 use Rattle.lightpath.specs.declared.Circuit.{Circuit}
@@ -14,12 +14,12 @@ use Rattle.channels.specs.declared.Slot.{Slot}
 use Rattle.channels.specs.declared.Slot.the-variants.{Unlit as unlit, Alone as alone, Shared as shared}
 use Rattle.channels.specs.Slot.{isLit}
 use Rattle.channels.specs.Channels.{Channels, unlitChannel, at, litPlaces}
-use Rattle.channels.specs.Lit.{countBelow, litBit, litAt, litOf}
+use Rattle.channels.specs.Lit.{countBelow, litBit, litOf}
 use Rattle.channels.proofs.Words.{lit-places}
 use Rattle.ring.specs.declared.RingTable.{RingTable}
 use Rattle.form.specs.Bytes.{fourBytes, twoBytes}
-use Rattle.form.specs.Form.{mapBytes, remarkBytes, circuitBytes, recordBytes, recordsBytes, portsBytes, formOf}
-use Rattle.form.proofs.Words.{map-long}
+use Rattle.form.specs.Form.{remarkBytes, circuitBytes, recordBytes, recordsBytes, formOf}
+use Rattle.form.proofs.Length.{form-length}
 use Rattle.encode.specs.Words.{onesOf}
 
 -- a circuit takes six bytes, and two more for a remark
@@ -90,16 +90,7 @@ counted lit ones c = c
 -- the form is N, the ports, the map, a byte for each lit place and the circuits
 sum : (t : RingTable) (ones n : ℕ) → length (t .ports) ≡ 64 → t .nodes ≤ 64 → ones ≡ onesOf (litOf (t .channels))
     → n + onesOf (litOf (t .channels)) ≡ length (recordsBytes (t .channels)) → 17 + t .nodes + ones + n ≡ length (formOf t)
-unfolding formOf
-sum t ones n e h g m =
-    let map : List ℕ = mapBytes (litAt (t .channels)) 16 0 in
-    omega (
-      arith,
-      length-take-le (t .nodes) (t .ports) (omega arith),
-      length-append (portsBytes t) (map ++ recordsBytes (t .channels)),
-      length-append map (recordsBytes (t .channels)),
-      map-long (litAt (t .channels)) 16 0,
-    )
+sum t ones n e h g m = omega (arith, form-length t (omega arith))
 
 pub form-long : (t : RingTable) (lit : Lit) (ones n : ℕ) → length (t .ports) ≡ 64 → t .nodes ≤ 64 → lit ≡ litOf (t .channels)
     → ones ≡ countBelow 128 (litBit lit) → n + onesOf (litOf (t .channels)) ≡ length (recordsBytes (t .channels)) → 17 + t .nodes + ones + n ≡ length (formOf t)

@@ -76,19 +76,29 @@ circuits-most N ks t r =
     let s = all-map (λ c. (1 ≤ c .source) × (c .source ≤ N)) (λ c. (1 ≤ c .source) × (c .source ≤ length ks)) (λ c h. omega (arith, l .most, l .fields)) (circuits t) (sources N (slots t) e) in
     omega (arith, by-nodes (λ c. c .source) (length ks) (circuits t) s, sum-le (λ j. sends (suc j) (circuits t)) ks (λ j h. r .ports j h .0))
 
--- a form has at most 1,745 bytes
-pub form-most : (t : RingTable) → meetsRules t ≡ true → length (formOf t) ≤ 1745
+-- a form is N, a port count for each node, 16 bytes of map and the records
+pub form-length : (t : RingTable) → t .nodes ≤ length (t .ports) → length (formOf t) ≡ 17 + t .nodes + length (recordsBytes (t .channels))
 unfolding formOf
-form-most t m =
-    let r = rules-hold (t .nodes) (t .ports) (t .channels) m in
-    let l = limits-hold (t .nodes) (t .ports) (t .channels) r in
+form-length t h =
     let map : List ℕ = mapBytes (litAt (t .channels)) 16 0 in
     omega (
       arith,
-      length-take-le (t .nodes) (t .ports) (omega (arith, l .most, l .fields)),
+      length-take-le (t .nodes) (t .ports) h,
       length-append (portsBytes t) (map ++ recordsBytes (t .channels)),
       length-append map (recordsBytes (t .channels)),
       map-long (litAt (t .channels)) 16 0,
+    )
+
+-- at most 1,745 bytes
+pub form-most : (t : RingTable) → meetsRules t ≡ true → length (formOf t) ≤ 1745
+form-most t m =
+    let r = rules-hold (t .nodes) (t .ports) (t .channels) m in
+    let l = limits-hold (t .nodes) (t .ports) (t .channels) r in
+    omega (
+      arith,
+      form-length t (omega (arith, l .most, l .fields)),
+      l .most,
+      l .long,
       records-most (t .channels),
       circuits-most (t .nodes) (t .ports) (t .channels) r,
     )
