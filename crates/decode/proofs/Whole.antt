@@ -5,10 +5,12 @@ use mathlib.Core.Bool.{Bool, true, false, _||_, not}
 use mathlib.Core.List.{List, [], _∷_, _++_}
 use native.Mathlib.Omega.{arith}
 use lib.Dec.{leb, ltb}
-use lib.ListN.{length, take, drop, length-append, length-drop, drop-of-length-le}
+use lib.ListN.{length, getD, take, drop, length-append, length-drop, drop-of-length-le}
 use lib.Seq.{drop-cons, drop-at, drop-drop}
+use mir.Syntax.{w8}
+use mir.Val.{Fits}
 use borrow.Author.Tests.{le-leb, lt-leb, not-true, not-false}
-use Rattle.basis.proofs.Search.{every-same}
+use Rattle.basis.proofs.Search.{at-all, every-same}
 use Rattle.channels.specs.declared.Lit.{Lit}
 use Rattle.channels.specs.Channels.{Channels}
 use Rattle.channels.specs.Lit.{litBit, wordsOf}
@@ -20,9 +22,11 @@ use Rattle.ring.specs.declared.RingTable.{RingTable}
 use Rattle.ring.specs.declared.Refusal.{Refusal}
 use Rattle.ring.specs.declared.Refusal.the-variants.{CutShort, BadField, TrailingBytes, BrokenForm}
 use Rattle.ring.specs.declared.Verdict.the-variants.{Granted as granted, Refused as refused}
+use Rattle.form.specs.Form.{formOf}
 use Rattle.form.specs.Reader.{Field, got, fault}
 use Rattle.form.specs.Reading.{answeredBy, readPorts, mapBit, noneLitFrom, readMap, readRecords, checked, readTable, readOf}
 use Rattle.form.proofs.Ports.{limit-zeros}
+use Rattle.form.proofs.Laws.{write-back}
 use Rattle.form.proofs.Fields.{Holds}
 use Rattle.form.proofs.Whole.{ports-are}
 use Rattle.decode.specs.declared.places.RecordsRead.{RecordsRead}
@@ -59,6 +63,10 @@ ring-got-by b (fault n) r h p e g = let z : _≡_ {A = ℕ} 0 1 = cc in absurd (
 
 pub ring-granted : (b : List ℕ) (r : Answered) → r ≡ ringBy (readPorts b) → r .verdict ≡ granted → Ported b (r .table)
 ring-granted b r e g = ring-got-by b (readPorts b) r refl (ports-are b) e g
+
+-- a form whose reading is granted is the form of the table read
+pub writes-back : (b : List ℕ) → ((i : ℕ) → Fits w8 (getD b i 0)) → (r : Answered) → r ≡ readOf b → r .verdict ≡ granted → formOf (r .table) ≡ b
+writes-back b h r e g = rw e (write-back b (at-all (λ x. x < 256) 0 b (λ i l. omega (arith, h i))) (rw e at g))
 
 pub ruleset readRules = (ring-refused, ring-granted)
 

@@ -7,6 +7,7 @@ mod places;
 ghost use mathlib.Core.Path.{_≡_};
 ghost use Prim.Native.Nat.{_+_, _<_};
 ghost use Rattle.ring.specs.Table.{withChannels};
+ghost use Rattle.form.specs.Form.{formOf};
 ghost use Rattle.form.specs.Reader.{fault};
 ghost use Rattle.form.specs.Reading.{answeredBy, readPorts, readOf};
 ghost use Rattle.decode.specs.Begun.{ringBy, judgedTable, Ported, Mapped};
@@ -106,9 +107,10 @@ fn read_places(form: &[u8], ring: RingTable) -> Answered
     read_channels(form, ring, lit)
 }
 
-// Reads a form: the table, or the blank one and the refusal.
+// Reads a form: the table, or the blank one and the refusal. What is granted is a table whose form is the bytes read.
 pub fn read(form: &[u8]) -> Answered
-    ensures { λ r. ⌜ r ≡ readOf (now (form .entry)) ⌝ }
+    ensures answer { λ r. ⌜ r ≡ readOf (now (form .entry)) ⌝ }
+    ensures back { λ r. ⌜ (r .verdict ≡ Verdict.Granted → formOf (r .table) ≡ now (form .entry)) ⌝ }
 {
     let ring = read_ring(form);
     let verdict = ring.verdict;

@@ -1,6 +1,6 @@
 -- `decode::read` meets its contract. Assumes nothing.
 use borrow.Author.Needs.{needs}
-use Rattle.decode.proofs.Whole.{readRules}
+use Rattle.decode.proofs.Whole.{ring-refused, writes-back, readRules}
 use Rattle.decode.proofs.read.Statement.{statement}
 use Rattle.decode.proofs.read.Tie as tie
 
@@ -17,10 +17,14 @@ read-places-requires : tie.Need-read-places-requires
 read-places-requires c κs = search (needs, readRules)
 
 returns : tie.Need-returns
-returns c = search (needs, readRules)
+returns c =
+    let answer = ring-refused _ _ _ (c .before .before .read-ring .ensures) (c .enum-told .given .1) in
+    (answer, writes-back _ (c .before .before .before .shared-slice-known .given) _ answer)
 
 returns-2 : tie.Need-returns-2
-returns-2 c = search needs
+returns-2 c =
+    let answer = c .read-places .ensures in
+    (answer, writes-back _ (c .before .before .before .before .before .shared-slice-known .given) _ answer)
 
 pub read-spec : {M : Type 1} → statement M
 read-spec =
