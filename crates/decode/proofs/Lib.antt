@@ -1,3 +1,4 @@
+-- The laws of reading by position: circuits, records, the map, the ring, the whole.
 pub mod Circuits
 pub mod Records
 pub mod Listing

@@ -17,6 +17,7 @@ use Rattle.decode.specs.declared.places.SlotRead.{SlotRead}
 use Rattle.decode.specs.declared.places.SlotRead.the-variants as contents
 use Rattle.decode.specs.declared.places.RecordsRead.{RecordsRead}
 
+-- of a remark, a circuit and what a place holds: the value and the position after it
 abbrev pub RemarkAt : List ℕ → RemarkRead → Field ℕ → Type 0
 RemarkAt b (remarks.Got x next) f = (next ≤ length b) × (f ≡ got x (drop next b))
 RemarkAt b (remarks.Refused r) f = f ≡ fault r
@@ -29,6 +30,7 @@ abbrev pub SlotAt : List ℕ → SlotRead → Field Slot → Type 0
 SlotAt b (contents.Got x next) f = (next ≤ length b) × (f ≡ got x (drop next b))
 SlotAt b (contents.Refused r) f = f ≡ fault r
 
+-- of the records of all places
 abbrev pub RecordsBy : Verdict → List ℕ → RecordsRead → Field Channels → Type 0
 RecordsBy granted b r f = (r .at ≤ length b) × (f ≡ got (r .channels) (drop (r .at) b))
 RecordsBy (refused n) b r f = f ≡ fault n

@@ -1,3 +1,4 @@
+-- The laws of writing: one part after the other, the parts of a form, its length, the whole and the answers.
 pub mod Chain
 pub mod Circuits
 pub mod Records

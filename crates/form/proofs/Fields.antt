@@ -19,19 +19,23 @@ abbrev pub Holds : {A : Type 0} → (A → List ℕ → Type 0) → Field A → 
 Holds P (got x r) = P x r
 Holds P (fault n) = Unit {0}
 
+-- a fact that follows from it holds too
 map-holds : {A : Type 0} (P Q : A → List ℕ → Type 0) (f : Field A) → Holds P f → ((x : A) (r : List ℕ) → P x r → Q x r) → Holds Q f
 map-holds P Q (got x r) h k = k x r h
 map-holds P Q (fault n) h k = tt
 
+-- what holds after a field, from what holds of the field
 pub then-holds : {A B : Type 0} (P : A → List ℕ → Type 0) (Q : B → List ℕ → Type 0) (f : Field A) (g : A → Reader B)
     → Holds P f → ((x : A) (r : List ℕ) → P x r → Holds Q (g x r)) → Holds Q (andThen f g)
 then-holds P Q (got x r) g h k = k x r h
 then-holds P Q (fault n) g h k = tt
 
+-- or whatever the field is
 pub then-any : {A B : Type 0} (Q : B → List ℕ → Type 0) (f : Field A) (g : A → Reader B) → ((x : A) (r : List ℕ) → Holds Q (g x r)) → Holds Q (andThen f g)
 then-any Q (got x r) g k = k x r
 then-any Q (fault n) g k = tt
 
+-- or from a test that holds
 pub unless-holds : {B : Type 0} (Q : B → List ℕ → Type 0) (n : Refusal) (t : Bool) (s : List ℕ) (g : Unit {0} → Reader B)
     → (t ≡ true → Holds Q (g tt s)) → Holds Q (andThen ((n unless t) s) g)
 unless-holds Q n true s g k = k refl
@@ -52,6 +56,7 @@ wrote write s x r h e =
     let k : AreBytes (write x ++ r) = rw e at h in
     record { is = e; front = all-left (λ x. x < 256) (write x) r k; rest = all-right (λ x. x < 256) (write x) r k }
 
+-- one byte, and n of them, are the first of the bytes read
 pub byte-is : (s : List ℕ) → Holds (λ x r. s ≡ x ∷ r) (byte s)
 byte-is [] = tt
 byte-is (x ∷ s) = refl

@@ -1,3 +1,4 @@
+-- The laws of the saved form: its parts, written and read back, read and written back, its length; then the laws of the whole.
 pub mod Words
 pub mod Ports
 pub mod FieldMap

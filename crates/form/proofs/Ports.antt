@@ -12,6 +12,7 @@ use Rattle.basis.proofs.Fold.{total-parts}
 use Rattle.basis.proofs.Sums.{total-append, total-zeros}
 use Rattle.rules.specs.Ports.{limitOf, eachAtMost}
 
+-- numbers that add up to nothing are zeros
 zeros : (ls : List ℕ) → total ls ≡ 0 → ls ≡ replicate (length ls) 0
 zeros [] e = refl
 zeros (l ∷ ls) e =
@@ -31,6 +32,7 @@ module _ (N : ℕ) (ks : List ℕ) where
   pub nodes-zeros : total (drop N ks) ≡ 0 → take N ks ++ replicate (length ks - N) 0 ≡ ks
   nodes-zeros e = let r : drop N ks ≡ replicate (length ks - N) 0 = zeros (drop N ks) e ∙ rw length-drop in rw (← r) (take-append-drop N ks)
 
+-- counts that keep to their limit do so in part
 pub each-take : (m N : ℕ) (ks : List ℕ) → eachAtMost m ks ≡ true → eachAtMost m (take N ks) ≡ true
 each-take m zero ks h = refl
 each-take m (suc N) [] h = refl

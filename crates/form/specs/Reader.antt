@@ -16,6 +16,7 @@ pub data Field (A : Type 0) : Type 0 where
 abbrev pub Reader : Type 0 → Type 0
 Reader A = List ℕ → Field A
 
+-- the next reader takes the bytes after a field; a refusal ends the reading
 abbrev pub andThen : {A B : Type 0} → Field A → (A → Reader B) → Field B
 andThen (got x s) f = f x s
 andThen (fault r) f = fault r

@@ -54,6 +54,7 @@ readRemark true = do
   BadField unless not (eqb (numberIn r) 0)
   give (numberIn r)
 
+-- number, source, destination, remark
 unfoldable pub readCircuit : Bool → Reader Circuit
 readCircuit remarked = do
   n ← bytes 4
@@ -73,6 +74,7 @@ readSecond a true remarked = do
   b ← readCircuit remarked
   give (shared a b)
 
+-- the field map, then each circuit
 unfoldable pub readRecord : Reader Slot
 readRecord = do
   m ← byte

@@ -144,6 +144,7 @@ impl Circuit {
         requires { ⌜ 0 < nodes ⌝ }
         ensures { λ r. ⌜ r ≡ canShare nodes direction self other ⌝ }
     {
+        // Asked first: most pairs are not adjacent, and hops cost a division each.
         if !self.adjacent(other) {
             return false;
         }

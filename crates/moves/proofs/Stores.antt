@@ -18,12 +18,14 @@ use Rattle.moves.proofs.Written.{written-long}
 abbrev pub putBelow : List Move → ℕ → ℕ → Move → List Move
 putBelow l i n m = pick (ltb i n) (set l i m) l
 
+-- the store under the test i < n, where it passes and where it fails
 pub put-below : (l : List Move) (i n : ℕ) (m : Move) → T (ltb i n) → set l i m ≡ putBelow l i n m
 put-below l i n m h = rw (lt-ltb i n (ltb→lt i n h))
 
 pub put-above : (l : List Move) (i n : ℕ) (m : Move) → T (not (ltb i n)) → l ≡ putBelow l i n m
 put-above l i n m h = rw (le-ltb i n (nltb→le i n h))
 
+-- it keeps the length
 pub length-putBelow : (l : List Move) (i n : ℕ) (m : Move) → length (putBelow l i n m) ≡ length l
 length-putBelow l i n m = go (ltb i n)
   where
@@ -42,6 +44,7 @@ headed l n p q r = take n (p ∷ q ∷ r ∷ []) ++ drop (length (take n (p ∷ 
 all-stored : (x y z : Move) (t : List Move) (n : ℕ) (p q r : Move) → 3 ≤ n → stored (x ∷ y ∷ z ∷ t) n p q r ≡ headed (x ∷ y ∷ z ∷ t) n p q r
 all-stored x y z t n p q r h = simp (lt-ltb 0 n (omega arith), lt-ltb 1 n (omega arith), lt-ltb 2 n (omega arith), take-all n (p ∷ q ∷ r ∷ []) h)
 
+-- the three stores make it
 stored-headed : (l : List Move) (n : ℕ) (p q r : Move) → 3 ≤ length l → stored l n p q r ≡ headed l n p q r
 stored-headed (x ∷ y ∷ z ∷ t) zero p q r h = refl
 stored-headed (x ∷ y ∷ z ∷ t) (suc zero) p q r h = refl
@@ -51,5 +54,6 @@ stored-headed [] n p q r h = absurd (omega arith)
 stored-headed (x ∷ []) n p q r h = absurd (omega arith)
 stored-headed (x ∷ y ∷ []) n p q r h = absurd (omega arith)
 
+-- which is the list as it is defined
 pub stores-written : (l : List Move) (a : Moves) → 3 ≤ length l → stored l (a .count) (a .first) (a .second) (a .third) ≡ written l a
 stores-written l a h = stored-headed l (a .count) (a .first) (a .second) (a .third) h ∙ sym (written-long l a h)

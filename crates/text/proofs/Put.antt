@@ -14,6 +14,7 @@ sets-append : (vs ws l : List ℕ) (i : ℕ) → sets l i (vs ++ ws) ≡ sets (s
 sets-append [] ws l i = rw add-zero
 sets-append (v ∷ vs) ws l i = sets-append vs ws (set l i v) (suc i) ∙ rw (suc-add, ← add-suc)
 
+-- nothing written, and two writes as one
 pub put-none : {l : List ℕ} {i : ℕ} → Put l i [] l i
 put-none = record { is = refl; end = omega arith }
 
