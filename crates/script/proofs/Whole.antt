@@ -1,21 +1,17 @@
--- What the program prints, however its input is cut into reads, is what the lines of the input print. Assumes nothing.
-use Prim.Native.Nat.{ℕ, zero, suc, _≤_, _<_}
-use mathlib.Core.Path.{_≡_, refl, sym, ap, _∙_}
+-- A script in any pieces prints what its lines print. Assumes nothing.
+use Prim.Native.Nat.{ℕ, zero, suc, _<_}
+use mathlib.Core.Path.{_≡_, refl, ap}
 use mathlib.Core.Bool.{Bool, true, false}
 use mathlib.Core.List.{List, [], _∷_, _++_, append-assoc, append-nil, flatten}
 use native.Mathlib.Omega.{arith}
 use lib.Dec.{eqb, leb}
-use lib.ListN.{length, take, length-take}
+use lib.ListN.{length, take}
 use lib.Seq.{take-all, length-take-le}
 use borrow.Author.Tests.{leb-true, leb-false, lt-leb, ne-eqb}
-use Rattle.basis.specs.Choice.{pick}
 use Rattle.line.specs.Line.{parseLine}
-use Rattle.script.specs.Desk.{Desk, runLine}
+use Rattle.script.specs.Desk.{Desk, emptyDesk, runLine}
 use Rattle.script.specs.Script.{lastLine, linesAfter, linesText, scriptText}
-use Rattle.script.specs.Bytes.{Script, byteAfter, byteText, after, texts, endText, readsText, startSession, scriptOf}
-use Rattle.script.proofs.Cuts.{after-cut, texts-cut}
-
--- ---- 257 bytes of a line are enough
+use Rattle.script.specs.Bytes.{Script, after, texts, endText, readsText, startSession, scriptOf}
 
 -- a line of 257 bytes is as bad as a longer one
 parse-cut : (l : List ℕ) → parseLine (take 257 l) ≡ parseLine l
@@ -37,56 +33,35 @@ take-more zero l r = refl
 take-more (suc n) [] r = refl
 take-more (suc n) (x ∷ l) r = ap (λ (t : List ℕ). x ∷ t) (take-more n l r)
 
--- ---- the input by its bytes and by its lines
-
 -- the script of a desk and the bytes w of a line that has begun
 abbrev holding : Desk → List ℕ → Script
 holding d w = record { desk = d; held = take 257 w }
 
-end-by-line : (d : Desk) (w : List ℕ) → endText (holding d w) ≡ linesText d (lastLine w)
+-- the end of the input prints what the last line prints
+end-line : (d : Desk) (w : List ℕ) → endText (holding d w) ≡ linesText d (lastLine w)
 unfolding linesText
-end-by-line d [] = refl
-end-by-line d (x ∷ w) = rw (ne-eqb (length (take 257 (x ∷ w))) 0 (λ e. omega arith), run-cut d (x ∷ w), append-nil)
+end-line d [] = refl
+end-line d (x ∷ w) = rw (ne-eqb (length (take 257 (x ∷ w))) 0 (λ e. omega arith), run-cut d (x ∷ w), append-nil)
 
--- what some bytes and the end of the input print
-abbrev said : Script → List ℕ → List ℕ
-said s input = texts s input ++ endText (after s input)
+-- after the bytes w of a line, a chunk and the reads after it print what their lines print
+abbrev ByLines : List (List ℕ) → Desk → List ℕ → List ℕ → Type 0
+ByLines reads d w chunk = texts (holding d w) chunk ++ readsText (after (holding d w) chunk) reads ≡ linesText d (linesAfter w (chunk ++ flatten reads))
 
-said-byte : (s : Script) (x : ℕ) (input : List ℕ) → said s (x ∷ input) ≡ byteText s x ++ said (byteAfter s x) input
-unfolding after texts
-said-byte s x input = append-assoc (byteText s x) (texts (byteAfter s x) input) (endText (after (byteAfter s x) input))
-
-module _ (d : Desk) (w : List ℕ) (x : ℕ) (input : List ℕ) where
-  line-end : eqb x 10 ≡ true → said (holding d w) (x ∷ input) ≡ runLine d w .text ++ said (holding (runLine d w .desk) []) input
-  line-end e = said-byte (holding d w) x input ∙ rw (e, run-cut d w)
-
-  other-byte : eqb x 10 ≡ false → said (holding d w) (x ∷ input) ≡ said (holding d (w ++ (x ∷ []))) input
-  other-byte e = said-byte (holding d w) x input ∙ rw (e, take-more 257 w (x ∷ []))
-
-by-lines : (d : Desk) (w input : List ℕ) → said (holding d w) input ≡ linesText d (linesAfter w input)
+chunk-by-lines : (reads : List (List ℕ)) → ((d : Desk) (w : List ℕ) → ByLines reads d w []) → (d : Desk) (w chunk : List ℕ) → ByLines reads d w chunk
 unfolding after texts linesAfter linesText
-by-lines d w [] = end-by-line d w
-by-lines d w (x ∷ input) = go (eqb x 10) refl (by-lines (runLine d w .desk) [] input) (by-lines d (w ++ (x ∷ [])) input)
+chunk-by-lines reads h d w [] = h d w
+chunk-by-lines reads h d w (x ∷ chunk) = go (eqb x 10) refl (chunk-by-lines reads h (runLine d w .desk) [] chunk) (chunk-by-lines reads h d (w ++ (x ∷ [])) chunk)
   where
-    go : (t : Bool) → eqb x 10 ≡ t
-        → said (holding (runLine d w .desk) []) input ≡ linesText (runLine d w .desk) (linesAfter [] input)
-        → said (holding d (w ++ (x ∷ []))) input ≡ linesText d (linesAfter (w ++ (x ∷ [])) input)
-        → said (holding d w) (x ∷ input) ≡ linesText d (pick (eqb x 10) (w ∷ linesAfter [] input) (linesAfter (w ++ (x ∷ [])) input))
-    go true e ended held = line-end d w x input e ∙ rw (e, ended)
-    go false e ended held = other-byte d w x input e ∙ rw (e, held)
+    go : (t : Bool) → eqb x 10 ≡ t → ByLines reads (runLine d w .desk) [] chunk → ByLines reads d (w ++ (x ∷ [])) chunk → ByLines reads d w (x ∷ chunk)
+    go true e ended held = rw (e, run-cut d w, append-assoc, ended)
+    go false e ended held = rw (e, take-more 257 w (x ∷ []), held)
 
--- the whole input as one read
-one-read : (input : List ℕ) → said (scriptOf startSession) input ≡ scriptText input
-unfolding scriptText
-one-read input = by-lines _ [] input
+by-lines : (reads : List (List ℕ)) (d : Desk) (w : List ℕ) → ByLines reads d w []
+unfolding readsText after texts linesAfter flatten
+by-lines [] d w = end-line d w
+by-lines (chunk ∷ reads) d w = chunk-by-lines reads (by-lines reads) d w chunk
 
--- ---- any reads
-
-as-one : (s : Script) (reads : List (List ℕ)) → readsText s reads ≡ said s (flatten reads)
-unfolding readsText after texts flatten
-as-one s [] = refl
-as-one s (chunk ∷ reads) = rw (texts-cut s chunk (flatten reads), after-cut s chunk (flatten reads), append-assoc) (ap (λ (t : List ℕ). texts s chunk ++ t) (as-one (after s chunk) reads))
-
--- it does not matter how the input is cut into reads
-pub reads-text : (reads : List (List ℕ)) → readsText (scriptOf startSession) reads ≡ scriptText (flatten reads)
-reads-text reads = as-one (scriptOf startSession) reads ∙ one-read (flatten reads)
+-- a script in any pieces prints what its lines print: it does not matter how the input is cut into reads
+pub whole : (reads : List (List ℕ)) → readsText (scriptOf startSession) reads ≡ scriptText (flatten reads)
+unfolding scriptText after texts
+whole reads = by-lines reads emptyDesk []
