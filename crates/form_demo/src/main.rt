@@ -1,5 +1,6 @@
 // Reads and writes saved forms: a whole one and its beginnings, each refusal of a form's sender and of a writing host, and what is left
 // of a lent buffer.
+// A demonstration: `main` promises only that it is safe, and what it prints is held to the file `stdout` by the gate.
 
 use encode::Written;
 use libc::STDOUT_FILENO;
@@ -61,7 +62,7 @@ fn print_refusal(refusal: Refusal) {
     print(b" refused ", wide(ring::refusal_number(refusal)));
 }
 
-// The first so many bytes of a buffer, and the one after them.
+// The bytes of a buffer, with a bar where the first so many end.
 fn print_bytes(buffer: [u8; 30], count: usize) {
     let mut i: usize = 0;
     while i < 30 {
@@ -177,6 +178,7 @@ fn read_each() {
     );
 }
 
+// The whole form read; its table and the blank one written, with room and without; the form cut; and each refusal of a form.
 fn main() {
     let form = ALONE;
     read_from(b"the whole form", &form);

@@ -1,5 +1,6 @@
 // A host of the ring controller: it makes document 01's ring, opens its circuits with a list of move records that it lends, closes one,
 // and prints what it got.
+// A demonstration: `main` promises only that it is safe, and what it prints is held to the file `stdout` by the gate.
 
 ghost use mathlib.Core.Path.{_≡_};
 ghost use lib.ListN.{replicate};
