@@ -16,7 +16,7 @@ use Rattle.ring.specs.declared.RingTable.{RingTable}
 use Rattle.ring.specs.declared.Verdict.{Verdict}
 use Rattle.ring.specs.declared.Verdict.the-variants.{Granted as granted, Refused as notGranted}
 use Rattle.ring.specs.declared.Opening.{Opening}
-use Rattle.ring.specs.declared.Opening.the-variants.{Taken as taken, Refused as notTaken}
+use Rattle.ring.specs.declared.Opening.the-variants.{Taken as taken, Refused as notOpened}
 use Rattle.ring.specs.Refusal.{numberOf}
 use Rattle.ring.specs.Making.{makeOf}
 use Rattle.ring.specs.Opening.{openOf, lentAfter}
@@ -78,7 +78,7 @@ verdictGives t (notGranted r) = refused (numberOf r) t
 -- the answer to an opening
 abbrev pub openingGives : List Move → RingTable → Opening → Answer
 openingGives lent t (taken p k looks) = opened (p .0) k looks lent t
-openingGives lent t (notTaken r) = refused (numberOf r) t
+openingGives lent t (notOpened r) = refused (numberOf r) t
 
 -- the map of a form stands after N and the ports
 abbrev pub mapStart : RingTable → ℕ

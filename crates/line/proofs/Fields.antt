@@ -17,13 +17,11 @@ use Rattle.line.specs.Line.{field, atEnd, bad}
 use Rattle.line.specs.Field.{Next, FieldAt}
 use Rattle.line.proofs.Words.{end-within, words-next}
 
--- ---- reading it
-
--- at the line's end there is none
+-- at the line's end there is no next word
 pub no-word : (limit : ℕ) (b : List ℕ) (at : ℕ) → length b ≤ at → FieldAt limit b at Unread
 no-word limit b at h w ws e = let k : [] ≡ w ∷ ws = rw (drop-of-length-le b h) at e in let z : _≡_ {A = ℕ} 0 1 = cc in absurd (omega arith)
 
--- before it there is one, which ends at the position that was found
+-- before the line's end there is one, which ends at the position that was found
 module _ (b : List ℕ) (at end : ℕ) (h : at < length b) (e : end ≡ (at + 1) + wordLength (drop (at + 1) b)) where
   pub word-end : end ≤ length b
   word-end = end-within b (at + 1) end e (omega arith)
@@ -51,8 +49,6 @@ module _ (b : List ℕ) (at end : ℕ) (h : at < length b) (e : end ≡ (at + 1)
         }
 
 pub ruleset fields = (no-word, word-end, no-number, word-number)
-
--- ---- going on from it
 
 -- an answer that has a number
 module _ (limit : ℕ) (b : List ℕ) (at : ℕ) (r : Field) (h : FieldAt limit b at r) (n next : ℕ) (k : r ≡ Read n next) where

@@ -12,8 +12,6 @@ use borrow.Author.Tests.{eq-eqb, ne-eqb}
 use Rattle.basis.proofs.Bools.{and-false}
 use Rattle.line.specs.Words.{wordsAfter, words, otherWords, wordLength, sameText}
 
--- ---- the first word
-
 -- the first word is a part of the text
 word-within : (s : List ℕ) → wordLength s ≤ length s
 word-within [] = omega arith
@@ -46,8 +44,6 @@ words-next b i h = rw (drop-cons b i 0, ← add-one i) (words-first (drop (i + 1
 pub end-within : (b : List ℕ) (at end : ℕ) → end ≡ at + wordLength (drop at b) → at ≤ length b → end ≤ length b
 end-within b at end e h = omega (arith, word-within (drop at b), length-drop at b)
 
--- ---- its end
-
 -- no space stands from position at up to i
 pub record Seeking (b : List ℕ) (at i : ℕ) : Type 0 where
   pub end : at + wordLength (drop at b) ≡ i + wordLength (drop i b)
@@ -68,9 +64,7 @@ module _ (b : List ℕ) (at i : ℕ) (q : Seeking b at i) where
 
 pub ruleset seeking = (seek-start, seek-end, seek-stop, seek-next)
 
--- ---- texts that are the same
-
--- texts of different lengths are not
+-- texts of different lengths are not the same
 pub unlike : (s t : List ℕ) → (length s ≡ length t → ⊥) → false ≡ sameText s t
 unlike [] [] h = absurd (h refl)
 unlike [] (y ∷ t) h = refl

@@ -13,8 +13,6 @@ use Rattle.line.specs.declared.Request.the-variants.{Ring, Open, Close, 
 use Rattle.line.specs.declared.Line.{Line}
 use Rattle.line.specs.Words.{words, sameText}
 
--- ---- requests
-
 -- a request with no ports beside it
 abbrev pub plainLine : Request → Line
 plainLine request = record { request = request; ports = replicate 128 0 }
@@ -26,8 +24,6 @@ bad = plainLine Bad
 -- a ring of n nodes with the ports ks: the request has their count, and zeros stand after them
 abbrev pub ring : ℕ → List ℕ → Line
 ring n ks = record { request = Ring n (length ks); ports = ks ++ replicate (128 - length ks) 0 }
-
--- ---- fields
 
 -- what follows from the number that a word is
 abbrev pub given : Number → (ℕ → Line) → Line
@@ -43,8 +39,6 @@ field bits (w ∷ ws) f = given (number (2 ^ bits) w) (λ n. f n ws)
 abbrev pub atEnd : List (List ℕ) → Line → Line
 atEnd [] line = line
 atEnd (w ∷ ws) line = bad
-
--- ---- lines
 
 -- "k..": a port of 8 bits for each word that is left, after the ports ks
 unfoldable pub portsAfter : ℕ → List ℕ → List (List ℕ) → Line

@@ -1,29 +1,25 @@
 -- Bytes taken in, one after another. Assumes nothing.
 use Prim.Native.Nat.{ℕ, _+_, _*_, _≤_, _<_}
-use mathlib.Core.Path.{_≡_, refl, sym, ap, _∙_}
+use mathlib.Core.Path.{_≡_, refl, sym, _∙_}
 use mathlib.Core.List.{List, [], _∷_, _++_, append-nil}
 use native.Mathlib.Omega.{arith}
 use native.Mathlib.Numerals.{add-one}
 use lib.ListN.{length, take, getD, set, length-append, length-set}
 use lib.Seq.{take-suc-set, take-all, take-at, length-take-le}
 use borrow.Author.Tests.{ne-eqb}
-use Rattle.text.specs.Put.{Put}
 use Rattle.text.proofs.Put.{put-none, put-put, put-length}
 use Rattle.script.specs.Answers.{Printed}
-use Rattle.script.specs.Desk.{Desk, Ran, Standing, runLine, answerRoom, Runs, Ended}
-use Rattle.script.specs.Bytes.{Script, Session, Fed, byteAfter, byteText, after, texts, endText, startSession, scriptOf, Sound, Took}
+use Rattle.script.specs.Desk.{Desk, Ran, KeepsRules, runLine, answerRoom, Runs, Ended}
+use Rattle.script.specs.Bytes.{Script, Session, Fed, after, texts, endText, startSession, scriptOf, Sound, Took}
 use Rattle.script.proofs.Cuts.{after-more, texts-more}
 
--- ---- the bytes of a line that has not ended, lent
-
+-- the bytes of a line that has not ended, lent
 module _ (line : List ℕ) (held : ℕ) (w : length line ≡ 257) (f : held ≤ 257) where
   pub held-within : held ≤ length line
   held-within = omega (arith, w)
 
   pub held-counted : held ≡ length (take held line)
   held-counted = sym (length-take-le held line held-within)
-
--- ---- bytes as they come
 
 -- before the first byte no ring was accepted
 pub start-sound : (s : Session) → s ≡ startSession → Sound s
@@ -40,14 +36,14 @@ pub record Feeding (s : Script) (chunk l0 : List ℕ) (d : Desk) (line : List �
   pub within : i ≤ length chunk
   pub width : length line ≡ 257
   pub few : held ≤ 257
-  pub standing : Standing d
+  pub rules : KeepsRules d
   pub space : answerRoom * length chunk ≤ length l0
 
 pub feed-none : (s : Session) (chunk l0 : List ℕ) → Sound s → length (s .line) ≡ 257 → answerRoom * length chunk ≤ length l0
     → Feeding (scriptOf s) chunk l0 (s .desk) (s .line) (s .held) l0 0 0
 unfolding after texts
 feed-none s chunk l0 f w h =
-    record { state = refl; text = record { put = put-none; short = omega arith }; within = omega arith; width = w; few = f .held; standing = f .desk; space = h }
+    record { state = refl; text = record { put = put-none; short = omega arith }; within = omega arith; width = w; few = f .held; rules = f .desk; space = h }
 
 module _ (s : Script) (chunk l0 : List ℕ) (d : Desk) (line : List ℕ) (held : ℕ) (l : List ℕ) (at i : ℕ) (q : Feeding s chunk l0 d line held l at i) where
   pub feed-few : held ≤ 257
@@ -58,7 +54,7 @@ module _ (s : Script) (chunk l0 : List ℕ) (d : Desk) (line : List ℕ) (held :
 
   module _ (h : i < length chunk) where
     pub feed-runs : Runs d l at
-    feed-runs = record { standing = q .standing; room = omega (arith, q .text .short, q .space, put-length (q .text .put)) }
+    feed-runs = record { rules = q .rules; room = omega (arith, q .text .short, q .space, put-length (q .text .put)) }
 
     -- a line end
     pub feed-line : (l1 : List ℕ) (r : Ran) → getD chunk i 0 ≡ 10 → Ended (runLine d (take held line)) l at l1 r
@@ -74,7 +70,7 @@ module _ (s : Script) (chunk l0 : List ℕ) (d : Desk) (line : List ℕ) (held :
           within = omega arith;
           width = q .width;
           few = omega arith;
-          standing = m .standing;
+          rules = m .rules;
           space = q .space;
         }
 
@@ -92,7 +88,7 @@ module _ (s : Script) (chunk l0 : List ℕ) (d : Desk) (line : List ℕ) (held :
           within = omega arith;
           width = w;
           few = f;
-          standing = q .standing;
+          rules = q .rules;
           space = q .space;
         }
 
@@ -115,13 +111,12 @@ module _ (s : Script) (chunk l0 : List ℕ) (d : Desk) (line : List ℕ) (held :
       record {
         state = rw e (q .state ∙ rw k);
         text = rw e (record { put = rw k at (q .text .put); short = omega (arith, q .text .short, q .within) });
-        sound = record { held = q .few; desk = q .standing };
+        sound = record { held = q .few; desk = q .rules };
       }
 
 pub ruleset feeding = (feed-none, feed-few, feed-long, held-within, held-counted, feed-runs, feed-line, feed-hold, feed-drop)
 
--- ---- the end of the input
-
+-- the end of the input
 module _ (s : Session) (l : List ℕ) where
   pub end-none : s .held ≡ 0 → Printed answerRoom l 0 (endText (scriptOf s)) l 0
   end-none h = rw h (record { put = put-none; short = omega arith })

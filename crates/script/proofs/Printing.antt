@@ -15,8 +15,7 @@ use Rattle.text.proofs.Put.{put-none, put-put, put-length}
 use Rattle.text.proofs.Back.{decimal-short}
 use Rattle.script.specs.Answers.{Printed, piece, ringLine, closeLine, openLine, moveLine, moveLines}
 
--- ---- words and a number, of at most ten digits
-
+-- words and a number, of at most ten digits
 module _ (l l1 words : List ℕ) (at i n : ℕ) (p : Put l at words l1 i) (h : n < 4294967296) where
   short : length (decimal n) ≤ 10
   short = decimal-short 9 n (omega arith)
@@ -34,8 +33,7 @@ number-is m l words ws l′ at e n k h p = rw (← h) p
 
 pub ruleset pieces = (number-room, piece-printed)
 
--- ---- lines, by what the answer is
-
+-- lines, by what the answer is
 module _ (l l′ : List ℕ) (at e : ℕ) where
   pub ring-is : (n w : ℕ) (v k : Verdict) → v ≡ k → Put l at (ringLine n w k) l′ e → Put l at (ringLine n w v) l′ e
   ring-is n w v k h p = rw h p
@@ -48,8 +46,7 @@ module _ (l l′ : List ℕ) (at e : ℕ) where
 
 pub ruleset lines = (ring-is, close-is, open-is, put-put)
 
--- ---- the lines of up to three moves
-
+-- the lines of up to three moves
 module _ (l : List ℕ) (at : ℕ) (m : Moves) where
   pub moves-none : m .count ≡ 0 → Put l at (moveLines (listed m)) l at
   moves-none h = rw h put-none

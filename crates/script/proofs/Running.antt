@@ -1,5 +1,5 @@
 -- A line, run: from what the calls ensured to the definitions. Assumes nothing.
-use mathlib.Core.Path.{_≡_, refl, sym, ap, _∙_}
+use mathlib.Core.Path.{_≡_, refl, sym}
 use mathlib.Core.Bool.{true, false}
 use mathlib.Core.List.{List, _++_}
 use Prim.Native.Nat.{ℕ, _+_, _≤_}
@@ -40,8 +40,8 @@ unready-close d n h = sym (pick-false (d .ready) _ _ _ h refl)
 
 module _ (d : Desk) (l : List ℕ) (at : ℕ) (s : Runs d l at) where
   -- the table of an accepted ring meets the ring rules
-  pub table-stands : d .ready ≡ true → meetsRules (d .table) ≡ true
-  table-stands h = s .standing h
+  pub table-rules : d .ready ≡ true → meetsRules (d .table) ≡ true
+  table-rules h = s .rules h
 
   module _ (l′ : List ℕ) where
     pub refused-open : (c : Circuit) (r : Ran) → d .ready ≡ false → Ended (refuse d) l at l′ r → Ended (runOpen d c) l at l′ r
@@ -55,23 +55,23 @@ module _ (d : Desk) (l : List ℕ) (at : ℕ) (s : Runs d l at) where
           → Printed 205 l at (openLine (c .number) (a .opened .answer) ++ moveLines (listed (a .moves))) l′ e
           → Ended (runOpen d c) l at l′ (record { desk = deskWith (a .opened .table); next = e })
       unfolding runOpen
-      opened c a h k p = record { desk = rw (h, k); text = rw (h, ← k) p; standing = λ t. rw k (open-rules (d .table) c 3 (s .standing h)) }
+      opened c a h k p = record { desk = rw (h, k); text = rw (h, ← k) p; rules = λ t. rw k (open-rules (d .table) c 3 (s .rules h)) }
 
       pub closed : (n : ℕ) (a : Answered) → d .ready ≡ true → a ≡ closeOf (d .table) n → Printed 25 l at (closeLine n (a .verdict)) l′ e
           → Ended (runClose d n) l at l′ (record { desk = deskWith (a .table); next = e })
       unfolding runClose
-      closed n a h k p = record { desk = rw (h, k); text = rw (h, ← k) (wider (omega arith) p); standing = λ t. rw k (close-rules (d .table) n (s .standing h)) }
+      closed n a h k p = record { desk = rw (h, k); text = rw (h, ← k) (wider (omega arith) p); rules = λ t. rw k (close-rules (d .table) n (s .rules h)) }
 
       module _ (n w : ℕ) (ks : List ℕ) (a : Answered) (k : a ≡ makeOf n ks) (i : w ≡ wavelengths (a .table .ports)) (p : Printed 39 l at (ringLine n w (a .verdict)) l′ e) where
         pub ringed : a .verdict ≡ granted → Ended (runRing d n ks) l at l′ (record { desk = deskWith (a .table); next = e })
         unfolding runRing
-        ringed h = record { desk = rw (← k, h); text = rw (← k, ← i) (wider (omega arith) p); standing = λ t. rw k (make-rules n ks (rw k at h)) }
+        ringed h = record { desk = rw (← k, h); text = rw (← k, ← i) (wider (omega arith) p); rules = λ t. rw k (make-rules n ks (rw k at h)) }
 
         pub not-ringed : (r : Refusal) → a .verdict ≡ refused r → Ended (runRing d n ks) l at l′ (record { desk = d; next = e })
         unfolding runRing
-        not-ringed r h = record { desk = rw (← k, h); text = rw (← k, ← i) (wider (omega arith) p); standing = s .standing }
+        not-ringed r h = record { desk = rw (← k, h); text = rw (← k, ← i) (wider (omega arith) p); rules = s .rules }
 
-pub ruleset running = (table-stands, refused-open, refused-close, opened, closed, ringed, not-ringed)
+pub ruleset running = (table-rules, refused-open, refused-close, opened, closed, ringed, not-ringed)
 
 -- the request that the line was parsed as
 pub line-run : (line : List ℕ) (p : Line) (q : Request) (d : Desk) (l : List ℕ) (at : ℕ) (l′ : List ℕ) (r : Ran)

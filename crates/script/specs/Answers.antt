@@ -12,8 +12,6 @@ use Rattle.text.specs.Bytes.{bytes}
 use Rattle.text.specs.Decimal.{decimal}
 use Rattle.text.specs.Put.{Put}
 
--- ---- a line of text
-
 -- words and a number after them
 unfoldable pub piece : List ℕ → ℕ → List ℕ
 piece words n = words ++ decimal n
@@ -22,8 +20,6 @@ piece words n = words ++ decimal n
 abbrev pub lineOf : List (String × ℕ) → List ℕ
 lineOf [] = bytes "\n"
 lineOf (p ∷ ps) = piece (bytes (p .0)) (p .1) ++ lineOf ps
-
--- ---- the answers
 
 -- `line refused`
 abbrev pub lineRefused : List ℕ
@@ -52,8 +48,6 @@ moveLine m = lineOf (("move ", m .number) ∷ (" from ", m .from .0) ∷ (" to "
 abbrev pub moveLines : List Move → List ℕ
 moveLines [] = []
 moveLines (m ∷ ms) = moveLine m ++ moveLines ms
-
--- ---- printing
 
 -- of the lent bytes l, l′ has the text from position at on and is else the same; the text takes at most so many bytes
 pub record Printed (most : ℕ) (l : List ℕ) (at : ℕ) (text : List ℕ) (l′ : List ℕ) (next : ℕ) : Type 0 where

@@ -6,7 +6,7 @@ use lib.Dec.{eqb}
 use lib.ListN.{length, take, replicate}
 use Rattle.basis.specs.Choice.{pick}
 use Rattle.script.specs.Answers.{Printed}
-use Rattle.script.specs.Desk.{Desk, emptyDesk, Standing, runLine, answerRoom}
+use Rattle.script.specs.Desk.{Desk, emptyDesk, KeepsRules, runLine, answerRoom}
 pub use Rattle.script.specs.declared.Session.{Session}
 pub use Rattle.script.specs.declared.Fed.{Fed}
 
@@ -40,8 +40,6 @@ unfoldable pub readsText : Script → List (List ℕ) → List ℕ
 readsText s [] = endText s
 readsText s (chunk ∷ chunks) = texts s chunk ++ readsText (after s chunk) chunks
 
--- ---- a session
-
 -- the session before the first byte
 abbrev pub startSession : Session
 startSession = record { desk = emptyDesk; line = replicate 257 0; held = 0 }
@@ -50,12 +48,13 @@ startSession = record { desk = emptyDesk; line = replicate 257 0; held = 0 }
 abbrev pub scriptOf : Session → Script
 scriptOf s = record { desk = s .desk; held = take (s .held) (s .line) }
 
--- a session that holds at most 257 bytes, at a desk whose table meets the ring rules
+-- a session that holds at most 257 bytes, at a desk whose table meets the ring rules; so it is before the first byte and after any bytes
 pub record Sound (s : Session) : Type 0 where
   pub held : s .held ≤ 257
-  pub desk : Standing (s .desk)
+  pub desk : KeepsRules (s .desk)
 
 -- bytes were taken in: the session is the script after them, and what they print stands at the start of the lent bytes
+-- of the session's 257 bytes those past the `held` first are left free: no script has them, so nothing that is printed later depends on them
 pub record Took (s : Session) (chunk l l′ : List ℕ) (r : Fed) : Type 0 where
   pub state : scriptOf (r .session) ≡ after (scriptOf s) chunk
   pub text : Printed (answerRoom * length chunk) l 0 (texts (scriptOf s) chunk) l′ (r .wrote)

@@ -17,27 +17,22 @@ use Rattle.ring.specs.declared.Verdict.{Verdict}
 use Rattle.ring.specs.declared.Verdict.the-variants.{Granted as granted, Refused as refused}
 use Rattle.line.specs.declared.Request.{Request}
 use Rattle.line.specs.declared.Request.the-variants.{Ring, Open, Close, Bad}
-use Rattle.line.specs.declared.Line.{Line}
 use Rattle.line.specs.Line.{parseLine}
 use Rattle.script.specs.Answers.{Printed, lineRefused, ringLine, closeLine, openLine, moveLines}
 pub use Rattle.script.specs.declared.Desk.{Desk}
 pub use Rattle.script.specs.declared.Ran.{Ran}
 
--- ---- the desk
-
--- before the first accepted ring: the table is blank
+-- the desk before the first accepted ring: its table is blank
 abbrev pub emptyDesk : Desk
 emptyDesk = record { ready = false; table = blankTable }
 
--- with the table of an accepted ring
+-- the desk with the table of an accepted ring
 abbrev pub deskWith : RingTable → Desk
 deskWith t = record { ready = true; table = t }
 
 -- the table of an accepted ring meets the ring rules
-abbrev pub Standing : Desk → Type 0
-Standing d = d .ready ≡ true → meetsRules (d .table) ≡ true
-
--- ---- what a line does
+abbrev pub KeepsRules : Desk → Type 0
+KeepsRules d = d .ready ≡ true → meetsRules (d .table) ≡ true
 
 -- the desk after a line, and what is printed
 pub record Outcome : Type 0 where
@@ -82,19 +77,17 @@ run d Bad ks = refuse d
 abbrev pub runLine : Desk → List ℕ → Outcome
 runLine d l = run d (parseLine l .request) (parseLine l .ports)
 
--- ---- running it
-
 -- the most bytes that a line's answer takes
 abbrev pub answerRoom : ℕ
 answerRoom = 205
 
 -- what running a line asks for: a desk whose table meets the ring rules, and room for the answer
 pub record Runs (d : Desk) (l : List ℕ) (at : ℕ) : Type 0 where
-  pub standing : Standing d
+  pub rules : KeepsRules d
   pub room : at + answerRoom ≤ length l
 
 -- a line was run: the desk is as defined, the text stands in the lent bytes, and the table meets the ring rules again
 pub record Ended (o : Outcome) (l : List ℕ) (at : ℕ) (l′ : List ℕ) (r : Ran) : Type 0 where
   pub desk : r .desk ≡ o .desk
   pub text : Printed answerRoom l at (o .text) l′ (r .next)
-  pub standing : Standing (r .desk)
+  pub rules : KeepsRules (r .desk)
