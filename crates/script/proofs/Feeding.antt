@@ -75,7 +75,8 @@ module _ (s : Script) (chunk l0 : List ℕ) (d : Desk) (line : List ℕ) (held :
         }
 
     -- another byte, with which the line held is as given
-    other : (line′ : List ℕ) (held′ : ℕ) → (getD chunk i 0 ≡ 10 → ⊥) → take 257 (take held line ++ (getD chunk i 0 ∷ [])) ≡ take held′ line′ → length line′ ≡ 257 → held′ ≤ 257
+    other : (line′ : List ℕ) (held′ : ℕ) → (getD chunk i 0 ≡ 10 → ⊥) → take 257 (take held line ++ (getD chunk i 0 ∷ [])) ≡ take held′ line′
+        → length line′ ≡ 257 → held′ ≤ 257
         → Feeding s chunk l0 d line′ held′ l at (i + 1)
     other line′ held′ n e w f =
         record {
@@ -96,7 +97,8 @@ module _ (s : Script) (chunk l0 : List ℕ) (d : Desk) (line : List ℕ) (held :
     feed-hold n f =
         let c : held < length line = omega (arith, q .width) in
         let z : take (held + 1) (set line held (getD chunk i 0)) ≡ take held line ++ (getD chunk i 0 ∷ []) = rw add-one (take-suc-set line held (getD chunk i 0) c) in
-        let k : length (take held line ++ (getD chunk i 0 ∷ [])) ≤ 257 = omega (arith, length-append (take held line) (getD chunk i 0 ∷ []), held-counted line held (q .width) (q .few)) in
+        let k : length (take held line ++ (getD chunk i 0 ∷ [])) ≤ 257 =
+        omega (arith, length-append (take held line) (getD chunk i 0 ∷ []), held-counted line held (q .width) (q .few)) in
         other (set line held (getD chunk i 0)) (held + 1) n (take-all 257 (take held line ++ (getD chunk i 0 ∷ [])) k ∙ sym z) (simp length-set (q .width)) (omega arith)
 
     -- 257 bytes are held already
@@ -121,7 +123,8 @@ module _ (s : Session) (l : List ℕ) where
   pub end-none : s .held ≡ 0 → Printed answerRoom l 0 (endText (scriptOf s)) l 0
   end-none h = rw h (record { put = put-none; short = omega arith })
 
-  pub end-line : (l′ : List ℕ) (r : Fed) → Sound s → length (s .line) ≡ 257 → (s .held ≡ 0 → ⊥) → Took s (10 ∷ []) l l′ r → Printed answerRoom l 0 (endText (scriptOf s)) l′ (r .wrote)
+  pub end-line : (l′ : List ℕ) (r : Fed) → Sound s → length (s .line) ≡ 257 → (s .held ≡ 0 → ⊥) → Took s (10 ∷ []) l l′ r
+      → Printed answerRoom l 0 (endText (scriptOf s)) l′ (r .wrote)
   unfolding texts
   end-line l′ r f w n m =
       rw (ne-eqb (length (take (s .held) (s .line))) 0 (λ e. n (held-counted (s .line) (s .held) w (f .held) ∙ e)), ← append-nil (runLine (s .desk) (take (s .held) (s .line)) .text)) (m .text)

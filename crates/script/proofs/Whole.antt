@@ -37,11 +37,11 @@ take-more (suc n) (x ∷ l) r = ap (λ (t : List ℕ). x ∷ t) (take-more n l r
 abbrev holding : Desk → List ℕ → Script
 holding d w = record { desk = d; held = take 257 w }
 
--- the end of the input prints what the last line prints
-end-line : (d : Desk) (w : List ℕ) → endText (holding d w) ≡ linesText d (lastLine w)
+-- the end of the input prints what the last line prints, if there is one
+last-printed : (d : Desk) (w : List ℕ) → endText (holding d w) ≡ linesText d (lastLine w)
 unfolding linesText
-end-line d [] = refl
-end-line d (x ∷ w) = rw (ne-eqb (length (take 257 (x ∷ w))) 0 (λ e. omega arith), run-cut d (x ∷ w), append-nil)
+last-printed d [] = refl
+last-printed d (x ∷ w) = rw (ne-eqb (length (take 257 (x ∷ w))) 0 (λ e. omega arith), run-cut d (x ∷ w), append-nil)
 
 -- after the bytes w of a line, a chunk and the reads after it print what their lines print
 abbrev ByLines : List (List ℕ) → Desk → List ℕ → List ℕ → Type 0
@@ -58,7 +58,7 @@ chunk-by-lines reads h d w (x ∷ chunk) = go (eqb x 10) refl (chunk-by-lines re
 
 by-lines : (reads : List (List ℕ)) (d : Desk) (w : List ℕ) → ByLines reads d w []
 unfolding readsText after texts linesAfter flatten
-by-lines [] d w = end-line d w
+by-lines [] d w = last-printed d w
 by-lines (chunk ∷ reads) d w = chunk-by-lines reads (by-lines reads) d w chunk
 
 -- a script in any pieces prints what its lines print: it does not matter how the input is cut into reads

@@ -136,6 +136,13 @@ module _ {M : Type 1} (𝓤 : URA M) (H : Heap 𝓤) (A : Atoms 𝓤) (W : Given
       qed W [] ∵ nothing ! $ nothing ! $ nothing ! $ owned ! Four (Is Four) (array-makes 𝓤 H A W R (LL.makes N.the-type N′.the-plain 𝓤 H A) 4) zs _ is-z $ fjoin ! $
       made ! O.the-type O′.the-plain r _ is-r $ fjoin ! $ made ! K.the-type K′.the-plain c _ is-c $ fjoin ! $ move ! (1 ∷ 0 ∷ []) $ join ! $ frame ! $ done !
 
+  -- of the parameters of `open` only the list is left, as it was last
+  abbrev Lasts : Type 0
+  Lasts = Unit {0} × (Unit {0} × (List Move × Unit {0}))
+
+  abbrev last : Lasts → List Move
+  last zs = zs .1 .1 .0
+
   -- what `open` says of its answer r and of the last list zs
   abbrev Answer : Opened → Type 0
   Answer r = r ≡ openOf t c lent
@@ -171,7 +178,7 @@ module _ {M : Type 1} (𝓤 : URA M) (H : Heap 𝓤) (A : Atoms 𝓤) (W : Given
         move ! (2 ∷ 0 ∷ []) $ use2 W (raw (Open 𝓤 H A mem run .pre (to-open α l₃ γ))) (goes-open α l₃ γ) $
         calls-at ! fm (Open 𝓤 H A mem run) known-open (to-open α l₃ γ) (and-then ! (load ! (from ! (stop !)) (look ! 15 refl)) (and-then ! (load ! (from ! (stop !)) (look ! 13 refl)) (and-then ! (load ! (from ! (stop !)) (look ! 4 refl)) (no-more !)))) (λ w.
         use1 W (later (some (λ (r : Opened). ((‵ (flft (α ∷ []) fullShare) ⊛ ‵ ftrue) ⊛ ‵ (O.the-row .own r (w ∷ []))) ⊛ raw (ensured 𝓤 H A open′.ended (open′.clauses 𝓤 H A mem run) (α ∷ [], tt) (t, (c, (x l₃ γ, tt))) tt r)))) (id⊢ 𝓤 _) $ await ! tt $ pick ! (λ r.
-        split ! $ move ! (1 ∷ []) $ use1 W (some (λ (zs : Unit {0} × (Unit {0} × (List Move × Unit {0}))). ‵ (lasts open′.ended (α ∷ [], tt) (t, (c, (x l₃ γ, tt))) zs) ⊛ (raw (fact 𝓤 (Answer r)) ⊛ (raw (fact 𝓤 (Last (zs .1 .1 .0))) ⊛ raw (fact 𝓤 (Demand r (zs .1 .1 .0))))))) (id⊢ 𝓤 _) $ pick ! (λ zs.
+        split ! $ move ! (1 ∷ []) $ use1 W (some (λ (zs : Lasts). ‵ (lasts open′.ended (α ∷ [], tt) (t, (c, (x l₃ γ, tt))) zs) ⊛ (raw (fact 𝓤 (Answer r)) ⊛ (raw (fact 𝓤 (Last (last zs))) ⊛ raw (fact 𝓤 (Demand r (last zs))))))) (id⊢ 𝓤 _) $ pick ! (λ zs.
         split ! $ move ! (1 ∷ []) $ split ! $ heard ! (Answer r) (λ answer. drop ! $
         fsplit ! $ drop ! $ fsplit ! $ drop ! $ fsplit ! $ fsplit ! $ move ! (1 ∷ []) $ feqL ! (λ l.
         -- [the last list; true; the token and the result; the lender's part; …]
@@ -179,15 +186,15 @@ module _ {M : Type 1} (𝓤 : URA M) (H : Heap 𝓤) (A : Atoms 𝓤) (W : Given
         land ! (from ! (stop !)) (init ! 13 refl (LL.lawful O.the-type O′.the-laws 𝓤 H A W .typed r _ is-r .0)) $
         rewrite ! 13 (λ (u : Val). ‵ (fat fullShare O′.mir l₄ 0 u)) (ap only (LL.tells O.the-type O′.the-laws r _ is-r)) refl $
         -- the lifetime is ended, and the array is taken back
-        lft-end ! tt $ move ! (0 ∷ 4 ∷ 2 ∷ []) $ use3 W (later (‵ (Arr (lying R) 4 .lies (zs .1 .1 .0) l₃ 0))) (slice-back 𝓤 H A W R (α ∷ []) γ (zs .1 .1 .0) 4 l₃ 0) $ await ! tt $ fsplit ! $ drop ! $
-        use1 W (‵ (fat fullShare (tyArray N′.mir 4) l₃ 0 (only (array-vals vals-of (zs .1 .1 .0)))) ⊛ ‵ (Four .own (zs .1 .1 .0) (array-vals vals-of (zs .1 .1 .0)))) (array-again 𝓤 H A W R 4 l₃ 0 vals-of (LL.tells N.the-type N′.the-laws) (zs .1 .1 .0) l) $ split ! $ move ! (1 ∷ []) $
-        facts ! Four (Is Four) (shows 𝓤 H A Four) (zs .1 .1 .0) (array-vals vals-of (zs .1 .1 .0)) (λ is-z.
+        lft-end ! tt $ move ! (0 ∷ 4 ∷ 2 ∷ []) $ use3 W (later (‵ (Arr (lying R) 4 .lies (last zs) l₃ 0))) (slice-back 𝓤 H A W R (α ∷ []) γ (last zs) 4 l₃ 0) $ await ! tt $ fsplit ! $ drop ! $
+        use1 W (‵ (fat fullShare (tyArray N′.mir 4) l₃ 0 (only (array-vals vals-of (last zs)))) ⊛ ‵ (Four .own (last zs) (array-vals vals-of (last zs)))) (array-again 𝓤 H A W R 4 l₃ 0 vals-of (LL.tells N.the-type N′.the-laws) (last zs) l) $ split ! $ move ! (1 ∷ []) $
+        facts ! Four (Is Four) (shows 𝓤 H A Four) (last zs) (array-vals vals-of (last zs)) (λ is-z.
         -- [_3; true; true; _8; …; _7; …; _6; …; _5; …; _4; …; …; _2; …; _1; …; room for _0; …]
-        assigns ! (of-opd ! (load ! (from ! (stop !)) (look ! 0 refl))) (from ! (stop !)) (store ! 9 refl (array-lawful 𝓤 H A W R (LL.lawful N.the-type N′.the-laws 𝓤 H A W) 4 .typed (zs .1 .1 .0) _ is-z .0)) $
+        assigns ! (of-opd ! (load ! (from ! (stop !)) (look ! 0 refl))) (from ! (stop !)) (store ! 9 refl (array-lawful 𝓤 H A W R (LL.lawful N.the-type N′.the-laws 𝓤 H A W) 4 .typed (last zs) _ is-z .0)) $
         -- `print_opening`
-        use0 W (raw (Print 𝓤 H A mem run .pre (to-print r (zs .1 .1 .0)))) (goes-print r (zs .1 .1 .0) (LL.owes O.the-type O′.the-laws r (LL.owed O.the-type O′.the-laws r _ is-r)) is-z) $
-        calls-at ! fm (Print 𝓤 H A mem run) known-print (to-print r (zs .1 .1 .0)) (and-then ! (load ! (from ! (stop !)) (look ! 15 refl)) (and-then ! (load ! (from ! (stop !)) (look ! 12 refl)) (and-then ! (load ! (from ! (stop !)) (look ! 10 refl)) (no-more !)))) (λ z.
-        use1 W (later (some (λ (u : Unit {0}). (‵ ftrue ⊛ ‵ (unit .own u (z ∷ []))) ⊛ raw (ensured 𝓤 H A print-opening.ended (print-opening.clauses 𝓤 H A mem run) tt (c, (r, (zs .1 .1 .0, tt))) tt u)))) (id⊢ 𝓤 _) $ await ! tt $ pick ! (λ u. split ! $ move ! (1 ∷ []) $ drop ! $ split ! $ drop ! $
+        use0 W (raw (Print 𝓤 H A mem run .pre (to-print r (last zs)))) (goes-print r (last zs) (LL.owes O.the-type O′.the-laws r (LL.owed O.the-type O′.the-laws r _ is-r)) is-z) $
+        calls-at ! fm (Print 𝓤 H A mem run) known-print (to-print r (last zs)) (and-then ! (load ! (from ! (stop !)) (look ! 15 refl)) (and-then ! (load ! (from ! (stop !)) (look ! 12 refl)) (and-then ! (load ! (from ! (stop !)) (look ! 10 refl)) (no-more !)))) (λ z.
+        use1 W (later (some (λ (u : Unit {0}). (‵ ftrue ⊛ ‵ (unit .own u (z ∷ []))) ⊛ raw (ensured 𝓤 H A print-opening.ended (print-opening.clauses 𝓤 H A mem run) tt (c, (r, (last zs, tt))) tt u)))) (id⊢ 𝓤 _) $ await ! tt $ pick ! (λ u. split ! $ move ! (1 ∷ []) $ drop ! $ split ! $ drop ! $
         facts ! unit (Is unit) (shows 𝓤 H A unit) u (z ∷ []) (λ is-u. land ! (from ! (stop !)) (init ! 3 refl (nothing-lawful 𝓤 H A W .typed u _ is-u .0)) $
         assigns ! (of-opd ! (load ! (from ! (fld ! refl (stop !))) (look-in ! 11 (sub ! 0 refl (whole !))))) (from ! (stop !)) (init ! 18 refl (LL.lawful T.the-type T′.the-laws 𝓤 H A W .typed (r .table) _ (LL.owed O.the-type O′.the-laws r _ is-r .0) .0)) $
         returns ! (look ! 18 refl) $ forget ! 0 refl $ forget ! 3 refl $ forget ! 5 refl $ forget ! 7 refl $ forget ! 9 refl $ forget ! 11 refl $ forget ! 14 refl $ forget ! 16 refl $ forget ! 18 refl $
