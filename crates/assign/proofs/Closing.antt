@@ -16,7 +16,7 @@ use Rattle.channels.specs.declared.Slot.{Slot}
 use Rattle.channels.specs.declared.Slot.the-variants.{Unlit as unlit, Alone as alone, Shared as shared}
 use Rattle.channels.specs.Channels.{Channels, at, numbered, live, whereIs, circuitOf}
 use Rattle.channels.specs.declared.Standing.{Standing}
-use Rattle.channels.proofs.Changes.{puts-there}
+use Rattle.channels.proofs.Puts.{puts-there}
 use Rattle.channels.proofs.Numbers.{ofNumber, Parted, parted, found-there, live-placed}
 use Rattle.rules.specs.Ports.{limitOf}
 use Rattle.rules.proofs.Rules.{Rules, limits-hold}

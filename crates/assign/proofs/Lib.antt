@@ -3,6 +3,7 @@
 pub mod Sound
 pub mod Five
 pub mod Searches
+pub mod Survey
 pub mod Candidates
 pub mod Step3
 pub mod Steps

@@ -1,7 +1,7 @@
 -- The searches of steps 1, 2 and 3b: what each finds, and what holds where it finds none. The other laws use these and not the
 -- definitions. Assumes nothing.
 use Prim.Native.Nat.{ℕ, _≤_, _<_}
-use mathlib.Core.Path.{_≡_, refl, sym, _∙_}
+use mathlib.Core.Path.{_≡_, sym, _∙_}
 use mathlib.Core.Bool.{Bool, true, false, _&&_, true≢false}
 use native.Mathlib.Decide.{decLt}
 use native.Mathlib.Omega.{arith}
@@ -14,10 +14,11 @@ use Rattle.lightpath.specs.declared.Circuit.{Circuit}
 use Rattle.lightpath.proofs.Places.{same-direction, direction-same}
 use Rattle.channels.specs.Slot.{isUnlit, isAlone}
 use Rattle.channels.specs.declared.Slot.{Slot}
-use Rattle.channels.specs.declared.Slot.the-variants.{Unlit as unlit, Alone as alone, Shared as shared}
+use Rattle.channels.specs.declared.Slot.the-variants.{Unlit as unlit}
 use Rattle.channels.specs.Channels.{Channels, at}
 use Rattle.channels.specs.Nonsharing.{standingAt}
 use Rattle.channels.specs.declared.Standing.{Standing}
+use Rattle.channels.proofs.Places.{is-unlit}
 use Rattle.channels.proofs.Nonsharing.{Stands, stands-alone}
 use Rattle.assign.specs.Steps.{canJoin, joinPlace, unlitPlace, lowestIn}
 
@@ -36,11 +37,6 @@ module _ (N m : ℕ) (t : Channels) (c : Circuit) where
   -- step 2 finds an unlit place
   pub unlit-found : unlitPlace N m t c < m → at t (unlitPlace N m t c) ≡ unlit
   unlit-found l = is-unlit (at t (unlitPlace N m t c)) (first-passes m (λ p. isUnlit (at t p)) l)
-    where
-      is-unlit : (s : Slot) → isUnlit s ≡ true → s ≡ unlit
-      is-unlit unlit e = refl
-      is-unlit (alone a) e = cc
-      is-unlit (shared a b) e = cc
 
   -- where it finds none, all are lit
   pub none-unlit : m ≤ unlitPlace N m t c → (p : ℕ) → p < m → isUnlit (at t p) ≡ false

@@ -16,10 +16,11 @@ use Rattle.lightpath.specs.declared.Circuit.{Circuit}
 use Rattle.channels.specs.Slot.{held}
 use Rattle.channels.specs.declared.Slot.{Slot}
 use Rattle.channels.specs.Channels.{Channels, at, circuits, numbered, whereIs}
-use Rattle.channels.specs.Change.{Change, puts}
+use Rattle.channels.specs.declared.Change.{Change}
+use Rattle.channels.specs.Change.{puts}
 use Rattle.channels.specs.declared.Standing.{Standing}
 use Rattle.channels.proofs.Places.{weigh-place}
-use Rattle.channels.proofs.Changes.{Apart, Within, Spared, taken, given, puts-length, puts-there, puts-here, puts-every, puts-weigh, part, part-with, whole}
+use Rattle.channels.proofs.Puts.{Apart, Within, Spared, taken, given, puts-length, puts-there, puts-here, puts-every, puts-weigh, part, part-with, whole}
 use Rattle.channels.proofs.Numbers.{ofNumber, stands-at, dead-nowhere}
 use Rattle.channels.proofs.Nonsharing.{Stands}
 use Rattle.moves.specs.declared.Move.{Move}

@@ -6,12 +6,17 @@ use Rattle.basis.specs.Search.{pairsOf}
 use Rattle.lightpath.specs.declared.Circuit.{Circuit}
 use Rattle.lightpath.specs.declared.Direction.{Direction}
 use Rattle.channels.specs.Channels.{Channels}
-use Rattle.channels.specs.Change.{puts}
+use Rattle.channels.specs.declared.Slot.the-variants.{Unlit as unlit}
+use Rattle.channels.specs.declared.Change.{Change}
+use Rattle.channels.specs.declared.Changes.{Changes}
+use Rattle.channels.specs.Change.{_gets_, puts}
+use Rattle.channels.specs.Change.{one as first, two as second, three as third}
 use Rattle.moves.specs.Records.{none, one, two, three}
 use Rattle.moves.specs.declared.Move.{Move}
 use Rattle.moves.specs.declared.Moves.{Moves}
 use Rattle.assign.specs.Plan.{Plan}
 use Rattle.assign.specs.Steps.{joinPlace, unlitPlace, candidates, passed, lowestAlone, planOf}
+pub use Rattle.assign.specs.declared.plan.Planned.{Planned}
 pub use Rattle.assign.specs.declared.Assigned.{Assigned}
 
 -- a list of up to three moves, by value
@@ -20,6 +25,17 @@ movesOf [] = none
 movesOf (a ∷ []) = one a
 movesOf (a ∷ b ∷ []) = two a b
 movesOf (a ∷ b ∷ c ∷ l) = three a b c
+
+-- a list of up to three changes, by value; a plan has at least one
+abbrev pub changesOf : List Change → Changes
+changesOf [] = first (0 gets unlit)
+changesOf (a ∷ []) = first a
+changesOf (a ∷ b ∷ []) = second a b
+changesOf (a ∷ b ∷ c ∷ l) = third a b c
+
+-- a plan by value
+abbrev pub plannedOf : Plan → Planned
+plannedOf plan = record { changes = changesOf (plan .changes); place = record { 0 = plan .taken }; moves = movesOf (plan .moves); looks = plan .looks }
 
 -- a plan carried out
 abbrev pub carriedOut : Channels → Plan → Assigned

@@ -3,7 +3,8 @@ use Prim.Native.Nat.{ℕ}
 use mathlib.Core.List.{List, [], _∷_}
 use Rattle.channels.specs.Slot.{without}
 use Rattle.channels.specs.Channels.{Channels, at, whereIs}
-use Rattle.channels.specs.Change.{Change, _gets_, puts}
+use Rattle.channels.specs.declared.Change.{Change}
+use Rattle.channels.specs.Change.{_gets_, puts}
 
 -- the place of the circuit with number n gets what is left without it
 abbrev pub closing : Channels → ℕ → List Change

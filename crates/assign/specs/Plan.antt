@@ -5,7 +5,8 @@ use mathlib.Core.List.{List, [], _∷_}
 use Rattle.lightpath.specs.declared.Circuit.{Circuit}
 use Rattle.channels.specs.Slot.{together}
 use Rattle.channels.specs.declared.Slot.the-variants.{Alone as alone}
-use Rattle.channels.specs.Change.{Change, _gets_}
+use Rattle.channels.specs.declared.Change.{Change}
+use Rattle.channels.specs.Change.{_gets_}
 use Rattle.channels.specs.declared.Standing.{Standing}
 use Rattle.moves.specs.declared.Move.{Move}
 

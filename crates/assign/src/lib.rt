@@ -3,25 +3,30 @@
 ghost use mathlib.Core.Path.{_≡_};
 ghost use Prim.Native.Nat.{_<_};
 ghost use Rattle.channels.specs.Channels.{whereIs};
-ghost use Rattle.assign.specs.Assigned.{Ready, assignedOf};
+ghost use Rattle.channels.specs.Change.{Placed};
+ghost use Rattle.assign.specs.Steps.{planOf};
+ghost use Rattle.assign.specs.Survey.{surveyOf};
+ghost use Rattle.assign.specs.Assigned.{Ready, plannedOf, assignedOf};
 ghost use Rattle.assign.specs.Closing.{closed};
 
 mod pairs;
 mod places;
 mod plan;
 mod rearrange;
+mod seen;
 
 use channels::Channel;
-use channels::place_of;
+use channels::changed;
 use lightpath::Circuit;
 use lightpath::Place;
 use moves::Moves;
 use pairs::found_pair;
-use places::join_place;
-use places::unlit_place;
+use plan::Planned;
 use plan::joined;
 use plan::lighted;
 use rearrange::rearranged;
+pub use seen::Survey;
+pub use seen::survey_places;
 
 // The places after an opening, with the place taken, the moves and the number of pairs tested.
 pub struct Assigned {
@@ -31,29 +36,58 @@ pub struct Assigned {
     pub looks: u16,
 }
 
-// A new circuit is opened by the first of steps 1, 2 and 3 that serves.
-pub fn assign(nodes: u8, limit: usize, channels: [Channel; 128], circuit: Circuit) -> Assigned
-    requires { ⌜ Ready nodes limit channels circuit ⌝ }
-    ensures { λ r. ⌜ r ≡ assignedOf nodes limit channels circuit ⌝ }
+// The first of steps 1, 2 and 3 that serves a new circuit, by what was seen of the places.
+fn plan_for(
+    nodes: u8,
+    limit: usize,
+    channels: [Channel; 128],
+    circuit: Circuit,
+    seen: Survey,
+) -> Planned
+    requires { ⌜ Ready nodes limit channels circuit × (seen ≡ surveyOf nodes limit channels circuit) ⌝ }
+    ensures { λ r. ⌜ (r ≡ plannedOf (planOf nodes limit channels circuit)) × Placed (r .changes) ⌝ }
 {
-    let join = join_place(nodes, limit, channels, circuit);
-    if join < limit {
-        return joined(channels, circuit, join);
+    let join = seen.join;
+    if join.place < limit {
+        return joined(circuit, join);
     }
-    let unlit = unlit_place(nodes, limit, channels, circuit);
+    let unlit = seen.lit.lowest_unlit() as usize;
     if unlit < limit {
-        return lighted(channels, circuit, unlit);
+        return lighted(circuit, unlit);
     }
     let pair = found_pair(limit, channels, circuit);
     rearranged(nodes, limit, channels, circuit, pair)
 }
 
-// The places without the circuit of a live number; none moves.
-pub fn without_circuit(channels: [Channel; 128], number: u32) -> [Channel; 128]
-    requires { ⌜ whereIs channels number < 128 ⌝ }
+// A new circuit is opened where the steps put it. Its plan is small; the places are copied and changed once, when it stands.
+pub fn assign(
+    nodes: u8,
+    limit: usize,
+    channels: [Channel; 128],
+    circuit: Circuit,
+    seen: Survey,
+) -> Assigned
+    requires { ⌜ Ready nodes limit channels circuit × (seen ≡ surveyOf nodes limit channels circuit) ⌝ }
+    ensures { λ r. ⌜ r ≡ assignedOf nodes limit channels circuit ⌝ }
+{
+    let planned = plan_for(nodes, limit, channels, circuit, seen);
+    let changes = planned.changes;
+    let place = planned.place;
+    let moves = planned.moves;
+    let channels = changed(channels, changes);
+    Assigned {
+        channels,
+        place,
+        moves,
+        looks: planned.looks,
+    }
+}
+
+// The places without the circuit of a number, which stands at a place; none moves.
+pub fn without_circuit(channels: [Channel; 128], number: u32, place: usize) -> [Channel; 128]
+    requires { ⌜ (place ≡ whereIs channels number) × (place < 128) ⌝ }
     ensures { λ r. ⌜ r ≡ closed channels number ⌝ }
 {
-    let place = place_of(channels, number);
     let mut after = channels;
     let channel = after[place];
     let slot = channel.slot;

@@ -1,14 +1,13 @@
-// The searches over the places below a limit, by rising place. Each answers with the limit where it finds none.
+// What steps 1 and 3b ask of a place.
 
 ghost use mathlib.Core.Path.{_≡_};
 ghost use mathlib.Core.Bool.{_&&_};
 ghost use Prim.Native.Nat.{_<_, _≤_};
 ghost use Rattle.lightpath.specs.Place.{directionOf, sameDirection};
 ghost use Rattle.channels.specs.Slot.{isAlone};
-ghost use Rattle.assign.specs.Steps.{canJoin, joinPlace, unlitPlace, lowestAlone};
+ghost use Rattle.assign.specs.Steps.{canJoin, lowestAlone};
 use channels::Channel;
 use channels::Slot;
-use channels::unlit_below;
 use lightpath::Circuit;
 use lightpath::Direction;
 use lightpath::Place;
@@ -23,29 +22,6 @@ pub fn can_join(nodes: u8, circuit: Circuit, place: usize, slot: Slot) -> bool
     }
     let direction = Place(place as u8).direction();
     slot.first().can_share(circuit, nodes, direction)
-}
-
-// Step 1: the first place at which the new circuit can join a nonsharing one.
-pub fn join_place(nodes: u8, limit: usize, channels: [Channel; 128], circuit: Circuit) -> usize
-    requires { ⌜ (0 < nodes) × (limit ≤ 128) ⌝ }
-    ensures { λ r. ⌜ r ≡ joinPlace nodes limit channels circuit ⌝ }
-{
-    for place in 0..limit {
-        let channel = channels[place];
-        let slot = channel.slot;
-        if can_join(nodes, circuit, place, slot) {
-            return place;
-        }
-    }
-    limit
-}
-
-// Step 2: the lowest unlit place, whatever the ring and the circuit.
-pub fn unlit_place(nodes: u8, limit: usize, channels: [Channel; 128], circuit: Circuit) -> usize
-    requires { ⌜ limit ≤ 128 ⌝ }
-    ensures { λ r. ⌜ r ≡ unlitPlace nodes limit channels circuit ⌝ }
-{
-    unlit_below(channels, limit)
 }
 
 // Whether a place is of a direction and holds a nonsharing circuit.

@@ -1,18 +1,26 @@
-// What each step does: its plan carried out on the places, with the place taken, the moves and the looks.
+// What each step does: which places get what, the place taken, the moves and the looks.
 
 ghost use mathlib.Core.Path.{_≡_};
 ghost use Prim.Native.Nat.{_<_};
-ghost use Rattle.channels.specs.Nonsharing.{standingAt};
+ghost use Rattle.channels.specs.Change.{Placed};
 ghost use Rattle.assign.specs.Plan.{movesTo, joining, lighting, oneMove, twoMoves, threeMoves};
-ghost use Rattle.assign.specs.Assigned.{carriedOut};
-use crate::Assigned;
-use channels::Channel;
+ghost use Rattle.assign.specs.Assigned.{plannedOf};
+use channels::Change;
+use channels::Changes;
 use channels::Slot;
 use channels::Standing;
 use lightpath::Circuit;
 use lightpath::Place;
 use moves::Move;
 use moves::Moves;
+
+// A plan by value.
+pub struct Planned {
+    pub changes: Changes,
+    pub place: Place,
+    pub moves: Moves,
+    pub looks: u16,
+}
 
 // The record of a move: number, old place, new place.
 pub fn moves_to(standing: Standing, place: usize) -> Move
@@ -27,133 +35,112 @@ pub fn moves_to(standing: Standing, place: usize) -> Move
     }
 }
 
-// Step 1: the new circuit joins the one at a place.
-pub fn joined(channels: [Channel; 128], circuit: Circuit, place: usize) -> Assigned
-    requires { ⌜ place < 128 ⌝ }
-    ensures { λ r. ⌜ r ≡ carriedOut channels (joining circuit (standingAt channels place)) ⌝ }
+// Step 1: the new circuit joins a partner.
+pub fn joined(circuit: Circuit, partner: Standing) -> Planned
+    requires { ⌜ partner .place < 128 ⌝ }
+    ensures { λ r. ⌜ (r ≡ plannedOf (joining circuit partner)) × Placed (r .changes) ⌝ }
 {
-    let mut after = channels;
-    let channel = after[place];
-    let slot = channel.slot;
-    after[place] = Channel {
-        slot: Slot::together(slot.first(), circuit),
+    let place = partner.place;
+    let shared = Change {
+        place,
+        slot: Slot::together(partner.circuit, circuit),
     };
-    let shared = place as u8;
-    Assigned {
-        channels: after,
-        place: Place(shared),
+    Planned {
+        changes: Changes::one(shared),
+        place: Place(place as u8),
         moves: Moves::none(),
         looks: 0,
     }
 }
 
 // Step 2: it takes an unlit place.
-pub fn lighted(channels: [Channel; 128], circuit: Circuit, place: usize) -> Assigned
+pub fn lighted(circuit: Circuit, place: usize) -> Planned
     requires { ⌜ place < 128 ⌝ }
-    ensures { λ r. ⌜ r ≡ carriedOut channels (lighting circuit place) ⌝ }
+    ensures { λ r. ⌜ (r ≡ plannedOf (lighting circuit place)) × Placed (r .changes) ⌝ }
 {
-    let mut after = channels;
-    after[place] = Channel {
+    let lit = Change {
+        place,
         slot: Slot::Alone(circuit),
     };
-    let lit = place as u8;
-    Assigned {
-        channels: after,
-        place: Place(lit),
+    Planned {
+        changes: Changes::one(lit),
+        place: Place(place as u8),
         moves: Moves::none(),
         looks: 0,
     }
 }
 
 // Step 3a: a stays, b moves to it, and the new circuit takes the place left.
-pub fn one_move(
-    channels: [Channel; 128],
-    circuit: Circuit,
-    a: Standing,
-    b: Standing,
-    looks: u16,
-) -> Assigned
+pub fn one_move(circuit: Circuit, a: Standing, b: Standing, looks: u16) -> Planned
     requires { ⌜ (a .place < 128) × (b .place < 128) ⌝ }
-    ensures { λ r. ⌜ r ≡ carriedOut channels (oneMove circuit a b looks) ⌝ }
+    ensures { λ r. ⌜ (r ≡ plannedOf (oneMove circuit a b looks)) × Placed (r .changes) ⌝ }
 {
-    let mut after = channels;
     let stays = a.place;
     let left = b.place;
-    after[stays] = Channel {
+    let shared = Change {
+        place: stays,
         slot: Slot::together(a.circuit, b.circuit),
     };
-    after[left] = Channel {
+    let taken = Change {
+        place: left,
         slot: Slot::Alone(circuit),
     };
-    let taken = left as u8;
-    Assigned {
-        channels: after,
-        place: Place(taken),
+    Planned {
+        changes: Changes::two(shared, taken),
+        place: Place(left as u8),
         moves: Moves::one(moves_to(b, stays)),
         looks,
     }
 }
 
 // Step 3b with an old member a and the new circuit: x moves to a's place, a to x's, the new one joins there.
-pub fn two_moves(
-    channels: [Channel; 128],
-    circuit: Circuit,
-    x: Standing,
-    a: Standing,
-    looks: u16,
-) -> Assigned
+pub fn two_moves(circuit: Circuit, x: Standing, a: Standing, looks: u16) -> Planned
     requires { ⌜ (x .place < 128) × (a .place < 128) ⌝ }
-    ensures { λ r. ⌜ r ≡ carriedOut channels (twoMoves circuit x a looks) ⌝ }
+    ensures { λ r. ⌜ (r ≡ plannedOf (twoMoves circuit x a looks)) × Placed (r .changes) ⌝ }
 {
-    let mut after = channels;
     let meet = x.place;
     let left = a.place;
     let gone = x.circuit;
-    after[meet] = Channel {
+    let shared = Change {
+        place: meet,
         slot: Slot::together(a.circuit, circuit),
     };
-    after[left] = Channel {
+    let given = Change {
+        place: left,
         slot: Slot::Alone(gone),
     };
-    let shared = meet as u8;
-    Assigned {
-        channels: after,
-        place: Place(shared),
+    Planned {
+        changes: Changes::two(shared, given),
+        place: Place(meet as u8),
         moves: Moves::two(moves_to(x, left), moves_to(a, meet)),
         looks,
     }
 }
 
 // Step 3b with old members a then b: x moves to a's place, a and b to x's, and the new circuit takes b's old place.
-pub fn three_moves(
-    channels: [Channel; 128],
-    circuit: Circuit,
-    x: Standing,
-    a: Standing,
-    b: Standing,
-    looks: u16,
-) -> Assigned
+pub fn three_moves(circuit: Circuit, x: Standing, a: Standing, b: Standing, looks: u16) -> Planned
     requires { ⌜ (x .place < 128) × (a .place < 128) × (b .place < 128) ⌝ }
-    ensures { λ r. ⌜ r ≡ carriedOut channels (threeMoves circuit x a b looks) ⌝ }
+    ensures { λ r. ⌜ (r ≡ plannedOf (threeMoves circuit x a b looks)) × Placed (r .changes) ⌝ }
 {
-    let mut after = channels;
     let meet = x.place;
     let left = a.place;
-    let gone = x.circuit;
     let last = b.place;
-    after[meet] = Channel {
+    let gone = x.circuit;
+    let shared = Change {
+        place: meet,
         slot: Slot::together(a.circuit, b.circuit),
     };
-    after[left] = Channel {
+    let given = Change {
+        place: left,
         slot: Slot::Alone(gone),
     };
-    after[last] = Channel {
+    let taken = Change {
+        place: last,
         slot: Slot::Alone(circuit),
     };
-    let taken = last as u8;
-    Assigned {
-        channels: after,
-        place: Place(taken),
+    Planned {
+        changes: Changes::three(shared, given, taken),
+        place: Place(last as u8),
         moves: Moves::three(moves_to(x, left), moves_to(a, meet), moves_to(b, meet)),
         looks,
     }

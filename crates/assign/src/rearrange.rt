@@ -4,10 +4,11 @@ ghost use mathlib.Core.Path.{_≡_};
 ghost use Prim.Native.Nat.{_<_, _≤_};
 ghost use Rattle.assign.specs.Steps.{standsRight, xOf, exchanging, rearranging};
 ghost use Rattle.assign.specs.Pairs.{Movable};
-ghost use Rattle.assign.specs.Assigned.{carriedOut};
-use crate::Assigned;
+ghost use Rattle.channels.specs.Change.{Placed};
+ghost use Rattle.assign.specs.Assigned.{plannedOf};
 use crate::pairs::Pair;
 use crate::places::lowest_alone;
+use crate::plan::Planned;
 use crate::plan::one_move;
 use crate::plan::three_moves;
 use crate::plan::two_moves;
@@ -44,16 +45,16 @@ pub fn x_of(nodes: u8, limit: usize, channels: [Channel; 128], a: Standing, b: S
 }
 
 // Step 3b: x moves to a's place, a and an old b to x's. The new circuit joins a there, or takes b's old place.
-pub fn exchanged(channels: [Channel; 128], circuit: Circuit, x: Standing, pair: Pair) -> Assigned
+pub fn exchanged(circuit: Circuit, x: Standing, pair: Pair) -> Planned
     requires { ⌜ (x .place < 128) × (pair .first .place < 128) ⌝ }
-    ensures { λ r. ⌜ r ≡ carriedOut channels (exchanging circuit x (pair .first) (pair .second) (pair .looks)) ⌝ }
+    ensures { λ r. ⌜ (r ≡ plannedOf (exchanging circuit x (pair .first) (pair .second) (pair .looks))) × Placed (r .changes) ⌝ }
 {
     let a = pair.first;
     let b = pair.second;
     if b.place < 128 {
-        return three_moves(channels, circuit, x, a, b, pair.looks);
+        return three_moves(circuit, x, a, b, pair.looks);
     }
-    two_moves(channels, circuit, x, a, pair.looks)
+    two_moves(circuit, x, a, pair.looks)
 }
 
 // Step 3a where a member of the pair stands right, and 3b where neither does.
@@ -63,17 +64,17 @@ pub fn rearranged(
     channels: [Channel; 128],
     circuit: Circuit,
     pair: Pair,
-) -> Assigned
+) -> Planned
     requires { ⌜ Movable nodes limit channels pair ⌝ }
-    ensures { λ r. ⌜ r ≡ carriedOut channels (rearranging nodes limit channels circuit (pair .first) (pair .second) (pair .looks)) ⌝ }
+    ensures { λ r. ⌜ (r ≡ plannedOf (rearranging nodes limit channels circuit (pair .first) (pair .second) (pair .looks))) × Placed (r .changes) ⌝ }
 {
     let a = pair.first;
     let b = pair.second;
     if stands_right(nodes, a, b, a) {
-        return one_move(channels, circuit, a, b, pair.looks);
+        return one_move(circuit, a, b, pair.looks);
     }
     if stands_right(nodes, a, b, b) {
-        return one_move(channels, circuit, b, a, pair.looks);
+        return one_move(circuit, b, a, pair.looks);
     }
-    exchanged(channels, circuit, x_of(nodes, limit, channels, a, b), pair)
+    exchanged(circuit, x_of(nodes, limit, channels, a, b), pair)
 }

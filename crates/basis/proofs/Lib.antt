@@ -3,6 +3,7 @@ pub mod Bools
 pub mod Branch
 pub mod Search
 pub mod Scan
+pub mod Descent
 pub mod Pairs
 pub mod Weigh
 pub mod Sums

@@ -19,7 +19,7 @@ use Rattle.channels.specs.Slot.{Slot, unlit, alone, shared, held, named,
 use Rattle.channels.specs.Channels.{Channels, at, circuits, numbered, live, whereIs, circuitOf}
 use Rattle.channels.specs.Change.{_gets_}
 use Rattle.channels.proofs.Places.{weigh-place, weigh-places, weigh-nowhere}
-use Rattle.channels.proofs.Changes.{Spared, whole}
+use Rattle.channels.proofs.Puts.{Spared, whole}
 
 -- 1 for a circuit of number n
 abbrev pub ofNumber : ℕ → Circuit → ℕ

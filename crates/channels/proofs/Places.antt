@@ -1,20 +1,19 @@
 -- The table place by place: its weight is the sum of its places' weights, and a change of one place changes only that. Assumes nothing.
-use Prim.Native.Nat.{ℕ, zero, suc, _+_, _≤_, _<_, zero-le, suc-le-suc}
-use mathlib.Core.Path.{_≡_, refl, ap}
+use Prim.Native.Nat.{ℕ, zero, suc, _+_, _-_, _*_, _≤_, _<_, zero-le, suc-le-suc}
+use mathlib.Core.Path.{_≡_, refl, ap, _∙_}
+use mathlib.Core.Bool.{true}
 use mathlib.Core.Logic.{_≢_}
 use mathlib.Core.List.{List, [], _∷_}
 use native.Mathlib.Nat.{le-of-suc-le-suc, not-suc-le-zero}
 use native.Mathlib.Omega.{arith}
-use lib.ListN.{length, getD, set, length-set, List·getD-eq-default}
-use lib.Seq.{getD-set-same, getD-set-other}
+use lib.ListN.{length, getD, set, drop, length-set, length-drop, List·getD-eq-default}
+use lib.Seq.{drop-cons, getD-drop, getD-set-same, getD-set-other}
 use Rattle.basis.specs.Count.{weigh}
 use Rattle.basis.proofs.Weigh.{weigh-append}
 use Rattle.lightpath.specs.declared.Circuit.{Circuit}
-use Rattle.channels.specs.Slot.{Slot, unlit, held}
+use Rattle.channels.specs.Slot.{Slot, unlit, alone, shared, held, isUnlit}
 use Rattle.channels.specs.Channels.{Channels, unlitChannel, at, slots, allHeld, circuits}
 use Rattle.channels.specs.Change.{Change, put}
-
--- ---- contents as a list
 
 -- there are as many contents as places
 pub slots-length : (t : Channels) → length (slots t) ≡ length t
@@ -37,7 +36,11 @@ slots-set (ch ∷ t) (suc p) s = rw (slots-set t p s)
 pub none-there : (t : Channels) (p : ℕ) → length t ≤ p → at t p ≡ unlit
 none-there t p l = ap (λ ch. ch .slot) (List·getD-eq-default t unlitChannel l)
 
--- ---- weights of contents
+-- a content that the test calls unlit is
+pub is-unlit : (s : Slot) → isUnlit s ≡ true → s ≡ unlit
+is-unlit unlit e = refl
+is-unlit (alone a) e = cc
+is-unlit (shared a b) e = cc
 
 -- the first content's circuits and the others'
 weigh-cons : (w : Circuit → ℕ) (s : Slot) (u : List Slot) → weigh w (allHeld (s ∷ u)) ≡ weigh w (held s) + weigh w (allHeld u)
@@ -66,13 +69,18 @@ weigh-none : (w : Circuit → ℕ) (u : List Slot) → ((p : ℕ) → p < length
 weigh-none w [] h = refl
 weigh-none w (s ∷ u) h = omega (arith, weigh-cons w s u, h 0 (omega arith), weigh-none w u (λ p l. h (suc p) (suc-le-suc l)))
 
+-- a place holds at most two circuits
+weigh-two-each : (w : Circuit → ℕ) → ((c : Circuit) → w c ≤ 1) → (u : List Slot) → weigh w (allHeld u) ≤ 2 * length u
+weigh-two-each w h [] = zero-le
+weigh-two-each w h (unlit ∷ u) = omega (arith, weigh-two-each w h u)
+weigh-two-each w h (alone a ∷ u) = omega (arith, h a, weigh-two-each w h u)
+weigh-two-each w h (shared a b ∷ u) = omega (arith, h a, h b, weigh-two-each w h u)
+
 -- a store takes the old content's amount and gives the new one's
 sum-set : (f : Slot → ℕ) (u : List Slot) (p : ℕ) (s : Slot) → p < length u → weigh f (set u p s) + f (getD u p unlit) ≡ weigh f u + f s
 sum-set f [] p s l = absurd (not-suc-le-zero l)
 sum-set f (x ∷ u) zero s l = omega arith
 sum-set f (x ∷ u) (suc p) s l = omega (arith, sum-set f u p s (le-of-suc-le-suc l))
-
--- ---- weights of places
 
 module _ (t : Channels) (w : Circuit → ℕ) where
   -- one place weighs no more than the table
@@ -87,7 +95,21 @@ module _ (t : Channels) (w : Circuit → ℕ) where
   pub weigh-nowhere : ((p : ℕ) → p < length t → weigh w (held (at t p)) ≡ 0) → weigh w (circuits t) ≡ 0
   weigh-nowhere h = weigh-none w (slots t) (λ p l. rw (slots-at t p) (h p (omega (arith, slots-length t))))
 
--- ---- a change of one place
+  -- the places from p on weigh what p does and those above it
+  pub weigh-from : (p : ℕ) → p < length t → weigh w (circuits (drop p t)) ≡ weigh w (held (at t p)) + weigh w (circuits (drop (suc p) t))
+  weigh-from p l = rw (drop-cons t p unlitChannel l) (weigh-cons w (at t p) (slots (drop (suc p) t)))
+
+  -- they weigh nothing where all are unlit
+  pub weigh-unlit : (p : ℕ) → ((q : ℕ) → p ≤ q → q < length t → at t q ≡ unlit) → weigh w (circuits (drop p t)) ≡ 0
+  weigh-unlit p h = weigh-none w (slots (drop p t)) (λ q l. rw (slots-at (drop p t) q) (nothing q (omega (arith, slots-length (drop p t), length-drop p t))))
+    where
+      nothing : (q : ℕ) → q < length t - p → weigh w (held (at (drop p t) q)) ≡ 0
+      nothing q l =
+          ap (λ (s : Slot). weigh w (held s)) (ap (λ ch. ch .slot) (getD-drop p t q unlitChannel) ∙ h (p + q) (omega arith) (omega arith))
+
+  -- and at most twice their number where a circuit weighs at most 1
+  pub weigh-most : (p : ℕ) → ((c : Circuit) → w c ≤ 1) → weigh w (circuits (drop p t)) ≤ 2 * (length t - p)
+  weigh-most p h = omega (arith, weigh-two-each w h (slots (drop p t)), slots-length (drop p t), length-drop p t)
 
 module _ (ch : Change) (t : Channels) where
   -- there are as many places as before

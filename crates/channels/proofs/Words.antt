@@ -1,5 +1,5 @@
 -- The two words of lit places: what their ones and the trailing zeros of their complements say of a table. Assumes nothing.
-use Prim.Native.Nat.{ℕ, suc, _+_, _-_, _*_, _^_, _≤_, _<_}
+use Prim.Native.Nat.{ℕ, zero, suc, _+_, _-_, _*_, _^_, _≤_, _<_}
 use mathlib.Core.Path.{_≡_, refl, sym, ap, ap₂, _∙_}
 use mathlib.Core.Bool.{Bool, true, false, not}
 use mathlib.Core.List.{[], _∷_}
@@ -16,11 +16,9 @@ use Rattle.basis.specs.Search.{firstBelow}
 use Rattle.basis.proofs.Weigh.{bit-most}
 use Rattle.channels.specs.Slot.{Slot, unlit, alone, shared, isLit, isUnlit}
 use Rattle.channels.specs.Channels.{Channels, at, litPlaces}
-use Rattle.channels.specs.Lit.{Lit, bitOf, word, countBelow, litBit, litAt, wordsOf, litOf}
+use Rattle.channels.specs.Lit.{Lit, bitOf, word, countBelow, litBit, litAt, wordsOf, litOf, under, Room}
 use Rattle.channels.proofs.Below.{count-same, first-same, count-sum, first-bound, first-sum}
 use Rattle.channels.proofs.Bits.{ones-count, trailing-first, word-lt, word-bit}
-
--- ---- what the words say
 
 -- place p of the lower 64 is bit p of the low word
 low-bits : (l : Lit) (p : ℕ) → p < 64 → litBit l p ≡ bitOf (l .low) p
@@ -61,8 +59,6 @@ module _ (l : Lit) (low : l .low < 2 ^ 64) (high : l .high < 2 ^ 64) where
   pub unlit-high : 64 ≤ trailingZeros 64 (2 ^ 64 - 1 - l .low) → 64 + trailingZeros 64 (2 ^ 64 - 1 - l .high) ≡ firstBelow 128 (λ p. not (litBit l p))
   unlit-high h = ap (λ (n : ℕ). 64 + n) first-high ∙ sym (first-sum 64 64 (λ p. not (litBit l p)) (omega (arith, first-low)))
 
--- ---- the words of a table
-
 -- the words say of each place whether it passes the test that they are made of
 pub words-say : (f : ℕ → Bool) (p : ℕ) → p < 128 → litBit (wordsOf f) p ≡ f p
 unfolding litBit
@@ -95,54 +91,76 @@ lit-all (ch ∷ t) = ap (λ (n : ℕ). bit (isLit (ch .slot)) + n) (lit-all t)
 pub lit-places : (t : Channels) → length t ≡ 128 → countBelow 128 (litBit (litOf t)) ≡ litPlaces t
 lit-places t e = count-same 128 (litBit (litOf t)) (litAt t) (words-say (litAt t)) ∙ ap (λ (n : ℕ). countBelow n (litAt t)) (sym e) ∙ lit-all t
 
--- ---- the loop that makes the words from the highest place of each down
-
--- the words hold the places from p on, of the lower 64 and of the higher
-pub record Built (t : Channels) (p low high : ℕ) : Type 0 where
-  pub low-word : low ≡ word (litAt t) (64 - p) p
-  pub high-word : high ≡ word (litAt t) (64 - p) (64 + p)
+-- the words hold the places from p on, each of its own 64
+pub record Built (t : Channels) (p : ℕ) (l : Lit) : Type 0 where
+  pub low-word : l .low ≡ word (litAt t) (64 - p) p
+  pub high-word : l .high ≡ word (litAt t) (64 - (p - 64)) (64 + (p - 64))
 
 -- a test cast to a number
-byte-bit : (r : Bool) → boolByte r ≡ bit r
+pub byte-bit : (r : Bool) → boolByte r ≡ bit r
 byte-bit true = refl
 byte-bit false = refl
 
--- the place under those of a word joins it
-word-next : (f : ℕ → Bool) (p i j w : ℕ) (r : Bool) → w ≡ word f (64 - p) i → 0 < p → p ≤ 64 → i ≡ suc j → r ≡ f j
-    → w * 2 + boolByte r ≡ word f (64 - (p - 1)) j
+-- a word of no lit place is 0
+word-none : (f : ℕ → Bool) (k i : ℕ) → ((p : ℕ) → i ≤ p → p < i + k → f p ≡ false) → word f k i ≡ 0
 unfolding word
-word-next f p i j w r e h l n s =
-    let m : 64 - (p - 1) ≡ suc (64 - p) = omega arith in
-    rw (byte-bit r, s, m, ← n, ← e)
+word-none f zero i h = refl
+word-none f (suc k) i h = simp (h i (omega arith) (omega arith), word-none f k (suc i) (λ p l m. h p (omega arith) (omega arith)))
 
--- there is room for it where not all 64 have joined
-word-fits : (f : ℕ → Bool) (p i w : ℕ) (r : Bool) → w ≡ word f (64 - p) i → 0 < p → w * 2 + boolByte r < 2 ^ 64
-word-fits f p i w r e h =
-    let m : 64 - p ≤ 63 = omega arith in
-    omega (arith, word-lt f (64 - p) i, pow-mono m, byte-bit r, bit-most r)
+-- a place joins its word under the others
+word-next : (f : ℕ → Bool) (k n i j w : ℕ) (b : Bool) → w ≡ word f k i → n ≡ suc k → i ≡ suc j → b ≡ f j → w * 2 + bit b ≡ word f n j
+unfolding word
+word-next f k n i j w b e m s h = rw (m, h, e, s)
+
+-- a word of no places is the same from wherever it counts
+word-empty : (f : ℕ → Bool) (k n i j w : ℕ) → w ≡ word f k i → k ≡ 0 → n ≡ 0 → w ≡ word f n j
+unfolding word
+word-empty f k n i j w e z y = rw y (rw z at e)
 
 module _ {t : Channels} where
-  -- no place has joined at first
-  pub built-start : Built t 64 0 0
-  unfolding word
-  built-start = record { low-word = refl; high-word = refl }
+  -- no place has joined where all from m on are unlit
+  pub built-start : (m : ℕ) → m ≤ 128 → ((p : ℕ) → m ≤ p → p < 128 → litAt t p ≡ false) → Built t m (record { low = 0; high = 0 })
+  built-start m l h = record {
+    low-word = sym (word-none (litAt t) (64 - m) m (λ p i j. h p i (omega arith)));
+    high-word = sym (word-none (litAt t) (64 - (m - 64)) (64 + (m - 64)) (λ p i j. h p (omega arith) (omega arith)));
+  }
 
   -- all have at the end
-  pub built-end : {p low high : ℕ} → Built t p low high → p ≤ 0 → record { low = low; high = high } ≡ litOf t
-  built-end {p} q h = let z : p ≡ 0 = omega arith in rw (q .low-word, q .high-word, z)
+  pub built-end : (p : ℕ) (l : Lit) → Built t p l → p ≤ 0 → l ≡ litOf t
+  built-end p l q h =
+      let z : p ≡ 0 = omega arith in
+      rw z at (ap₂ {C = Lit} (λ (x y : ℕ). record { low = x; high = y }) (q .low-word) (q .high-word))
 
-  module _ {p low high : ℕ} (q : Built t p low high) (h : 0 < p) where
-    -- there is room for one place more in each word
-    pub low-fits : (r : Bool) → low * 2 + boolByte r < 2 ^ 64
-    low-fits r = word-fits (litAt t) p p low r (q .low-word) h
-
-    pub high-fits : (r : Bool) → high * 2 + boolByte r < 2 ^ 64
-    high-fits r = word-fits (litAt t) p (64 + p) high r (q .high-word) h
-
-    -- and one joins each
-    pub built-next : {r s : Bool} → p ≤ 64 → r ≡ litAt t (p - 1) → s ≡ litAt t (64 + (p - 1))
-        → Built t (p - 1) (low * 2 + boolByte r) (high * 2 + boolByte s)
-    built-next {r} {s} l d e = record {
-      low-word = word-next (litAt t) p p (p - 1) low r (q .low-word) h l (omega arith) d;
-      high-word = word-next (litAt t) p (64 + p) (64 + (p - 1)) high s (q .high-word) h l (omega arith) e;
+  module _ (p : ℕ) (l : Lit) (q : Built t p l) (h : 0 < p) where
+    -- there is room for one place more
+    pub built-room : Room l (p - 1)
+    built-room = record {
+      low = λ k. let m : 64 - p ≤ 63 = omega arith in omega (arith, q .low-word, word-lt (litAt t) (64 - p) p, pow-mono m);
+      high = λ k.
+          let m : 64 - (p - 64) ≤ 63 = omega arith in
+          omega (arith, q .high-word, word-lt (litAt t) (64 - (p - 64)) (64 + (p - 64)), pow-mono m);
     }
+
+    -- and it joins
+    pub built-next : (b : Bool) (r : Lit) → p ≤ 128 → b ≡ litAt t (p - 1) → r ≡ under l (p - 1) b → Built t (p - 1) r
+    built-next b r k e d = go (ltb (p - 1) 64) refl
+      where
+        above : (j : ℕ) → 64 ≤ j → p ≡ suc j → b ≡ litAt t j → l .high * 2 + bit b ≡ word (litAt t) (64 - (j - 64)) (64 + (j - 64))
+        above j m s w =
+            let y : 64 + (j - 64) ≡ j = omega arith in
+            word-next (litAt t) (64 - (p - 64)) (64 - (j - 64)) (64 + (p - 64)) (64 + (j - 64)) (l .high) b (q .high-word) (omega arith) (omega arith) (rw y w)
+
+        go : (c : Bool) → ltb (p - 1) 64 ≡ c → Built t (p - 1) r
+        go true w =
+            let m : p - 1 < 64 = ltb-true (p - 1) 64 w in
+            let z : p - 1 - 64 ≡ p - 64 = omega arith in
+            rw (d, w) (record {
+              low-word = word-next (litAt t) (64 - p) (64 - (p - 1)) p (p - 1) (l .low) b (q .low-word) (omega arith) (omega arith) e;
+              high-word = rw z (q .high-word);
+            })
+        go false w =
+            let m : 64 ≤ p - 1 = ltb-false (p - 1) 64 w in
+            rw (d, w) (record {
+              low-word = word-empty (litAt t) (64 - p) (64 - (p - 1)) p (p - 1) (l .low) (q .low-word) (omega arith) (omega arith);
+              high-word = above (p - 1) m (omega arith) e;
+            })

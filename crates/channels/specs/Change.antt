@@ -1,13 +1,11 @@
 -- What an opening or a closing does to a table: places get new contents, one after the other. Assumes nothing.
-use Prim.Native.Nat.{ℕ}
+use Prim.Native.Nat.{ℕ, _<_}
 use mathlib.Core.List.{List, [], _∷_}
 use lib.ListN.{set}
 use Rattle.channels.specs.Slot.{Slot}
 use Rattle.channels.specs.Channels.{Channels}
-
-pub record Change : Type 0 where
-  pub place : ℕ
-  pub slot : Slot
+pub use Rattle.channels.specs.declared.Change.{Change}
+pub use Rattle.channels.specs.declared.Changes.{Changes}
 
 infix 20 _gets_
 -- place p gets the content s
@@ -20,3 +18,23 @@ put ch t = set t (ch .place) (record { slot = ch .slot })
 abbrev pub puts : List Change → Channels → Channels
 puts [] t = t
 puts (ch ∷ chs) t = puts chs (put ch t)
+
+-- up to three changes by value: fewer are three of which the last is said again, which changes nothing
+abbrev pub one : Change → Changes
+one a = record { first = a; second = a; third = a }
+
+abbrev pub two : Change → Change → Changes
+two a b = record { first = a; second = b; third = b }
+
+abbrev pub three : Change → Change → Change → Changes
+three a b c = record { first = a; second = b; third = c }
+
+-- their list
+abbrev pub inOrder : Changes → List Change
+inOrder chs = chs .first ∷ chs .second ∷ chs .third ∷ []
+
+-- each is of a place that there is
+pub record Placed (chs : Changes) : Type 0 where
+  pub first : chs .first .place < 128
+  pub second : chs .second .place < 128
+  pub third : chs .third .place < 128

@@ -1,5 +1,5 @@
 -- 01, "Saved form": the map says which places are lit, two 64-bit words. Assumes nothing.
-use Prim.Native.Nat.{ℕ, zero, suc, _+_, _-_, _*_, _/_, _%_, _^_}
+use Prim.Native.Nat.{ℕ, zero, suc, _+_, _-_, _*_, _/_, _%_, _^_, _≤_, _<_}
 use mathlib.Core.Bool.{Bool}
 use lib.Dec.{eqb, ltb}
 use Rattle.basis.specs.Choice.{pick, bit}
@@ -36,3 +36,12 @@ wordsOf f = record { low = word f 64 0; high = word f 64 64 }
 -- the words of a table
 abbrev pub litOf : Channels → Lit
 litOf t = wordsOf (litAt t)
+
+-- the words with place p, under those that its word has
+abbrev pub under : Lit → ℕ → Bool → Lit
+under l p b = pick (ltb p 64) (record { low = l .low * 2 + bit b; high = l .high }) (record { low = l .low; high = l .high * 2 + bit b })
+
+-- there is room for it
+pub record Room (l : Lit) (p : ℕ) : Type 0 where
+  pub low : p < 64 → l .low < 2 ^ 63
+  pub high : 64 ≤ p → l .high < 2 ^ 63

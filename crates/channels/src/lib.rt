@@ -1,21 +1,19 @@
 // What stands at the 128 directed wavelength places of a ring.
 
 ghost use mathlib.Core.Path.{_≡_};
-ghost use Prim.Native.Nat.{_<_};
 ghost use Rattle.channels.specs.Slot.{isLit, isUnlit, isAlone, firstOf, together, without, holds};
 ghost use Rattle.channels.specs.Channels.{unlitChannels, at};
-ghost use Rattle.channels.specs.Change.{put, _gets_};
 use lightpath::Circuit;
 
 mod gather;
 mod lit_words;
+mod updates;
 
 pub use gather::circuits_of;
 pub use gather::nonsharing_below;
 pub use gather::place_of;
 pub use lit_words::lit_of;
-pub use lit_words::lowest_unlit;
-pub use lit_words::unlit_below;
+pub use updates::changed;
 
 // The content of a place: unlit, one circuit alone, or two that share it, the lower number first.
 pub enum Slot {
@@ -33,6 +31,19 @@ pub struct Channel {
 pub struct Lit {
     pub low: u64,
     pub high: u64,
+}
+
+// A place and the content that it gets.
+pub struct Change {
+    pub place: usize,
+    pub slot: Slot,
+}
+
+// Three changes, one after the other. Fewer are three of which the last is said again.
+pub struct Changes {
+    pub first: Change,
+    pub second: Change,
+    pub third: Change,
 }
 
 // A circuit and the place at which it stands.
@@ -161,14 +172,4 @@ pub fn slot_at(channels: [Channel; 128], place: usize) -> Slot
     }
     let channel = channels[place];
     channel.slot
-}
-
-// The places with another content at one of them.
-pub fn with_slot(channels: [Channel; 128], place: usize, slot: Slot) -> [Channel; 128]
-    requires { ⌜ place < 128 ⌝ }
-    ensures { λ r. ⌜ r ≡ put (place gets slot) channels ⌝ }
-{
-    let mut changed = channels;
-    changed[place] = Channel { slot };
-    changed
 }

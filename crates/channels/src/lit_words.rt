@@ -2,11 +2,8 @@
 
 ghost use mathlib.Core.Path.{_≡_};
 ghost use mathlib.Core.Bool.{not};
-ghost use Prim.Native.Nat.{_≤_};
 ghost use Rattle.basis.specs.Search.{firstBelow};
-ghost use Rattle.channels.specs.Slot.{isUnlit};
-ghost use Rattle.channels.specs.Channels.{at};
-ghost use Rattle.channels.specs.Lit.{countBelow, litBit, litOf};
+ghost use Rattle.channels.specs.Lit.{countBelow, litBit, under, Room, litOf};
 use crate::Channel;
 use crate::Lit;
 
@@ -28,42 +25,39 @@ impl Lit {
         }
         64 + u64::trailing_zeros(!self.high)
     }
+
+    // The words with one more place, under those that its word has.
+    pub fn under(self, place: usize, lit: bool) -> Lit
+        requires { ⌜ Room self place ⌝ }
+        ensures { λ r. ⌜ r ≡ under self place lit ⌝ }
+    {
+        let bit = lit as u64;
+        if place < 64 {
+            let low = self.low * 2 + bit;
+            return Lit {
+                low,
+                high: self.high,
+            };
+        }
+        let high = self.high * 2 + bit;
+        Lit {
+            low: self.low,
+            high,
+        }
+    }
 }
 
-// The words of a table, made from the highest place of each down.
+// The words of a table, made from its highest place down.
 pub fn lit_of(channels: [Channel; 128]) -> Lit
     ensures { λ r. ⌜ r ≡ litOf channels ⌝ }
 {
-    let mut low: u64 = 0;
-    let mut high: u64 = 0;
-    let mut p: usize = 64;
+    let mut lit = Lit { low: 0, high: 0 };
+    let mut p: usize = 128;
     while 0 < p {
         p -= 1;
-        let lower = channels[p];
-        let higher = channels[64 + p];
-        let below = lower.slot;
-        let above = higher.slot;
-        low = low * 2 + below.is_lit() as u64;
-        high = high * 2 + above.is_lit() as u64;
+        let channel = channels[p];
+        let slot = channel.slot;
+        lit = lit.under(p, slot.is_lit());
     }
-    Lit { low, high }
-}
-
-// The lowest unlit place of a table, or 128 where all are lit.
-pub fn lowest_unlit(channels: [Channel; 128]) -> usize
-    ensures { λ r. ⌜ r ≡ firstBelow 128 (λ p. isUnlit (at channels p)) ⌝ }
-{
-    lit_of(channels).lowest_unlit() as usize
-}
-
-// The lowest unlit place below a limit, or the limit where all below it are lit.
-pub fn unlit_below(channels: [Channel; 128], limit: usize) -> usize
-    requires { ⌜ limit ≤ 128 ⌝ }
-    ensures { λ r. ⌜ r ≡ firstBelow limit (λ p. isUnlit (at channels p)) ⌝ }
-{
-    let place = lowest_unlit(channels);
-    if place < limit {
-        return place;
-    }
-    limit
+    lit
 }

@@ -1,35 +1,50 @@
 -- The causes of a refusal: none of them leaves a request that the ports permit, and demand 3's own list of reasons agrees with them.
 -- Assumes nothing.
+use Prim.Native.Nat.{_≤_, _<_}
 use mathlib.Core.Path.{_≡_, refl, sym, ap}
 use mathlib.Core.Bool.{Bool, true, false, _&&_, _||_, not, true≢false}
 use mathlib.Core.List.{List, [], _∷_}
 use native.Mathlib.Omega.{arith}
-use lib.Dec.{leb}
+use lib.Dec.{leb, ltb}
 use lib.ListN.{length}
-use borrow.Author.Tests.{ltb-true, ltb-false, not-false, eq-eqb, ne-eqb}
+use borrow.Author.Tests.{lt-ltb, le-ltb, ltb-true, ltb-false, not-false, eq-eqb, ne-eqb}
 use Rattle.basis.specs.Choice.{pick}
 use Rattle.basis.specs.Count.{All}
 use Rattle.basis.proofs.Branch.{pick-true, pick-false, said}
 use Rattle.basis.proofs.Bools.{and-both, or-false, not-leb, not-ltb}
 use Rattle.lightpath.specs.Circuit.{onRing}
 use Rattle.lightpath.specs.declared.Circuit.{Circuit}
-use Rattle.channels.specs.Channels.{circuits, numbered}
+use Rattle.channels.specs.Channels.{circuits, numbered, live}
 use Rattle.moves.specs.declared.Move.{Move}
-use Rattle.rules.specs.Ports.{portsAt, sends, receives}
+use Rattle.rules.specs.Ports.{portsAt, sends, receives, freeTransmitter, freeReceiver}
 use Rattle.rules.proofs.Allowable.{Allowable}
 use Rattle.ring.specs.Table.{RingTable}
 use Rattle.ring.specs.Refusal.{Refusal, numberOf, granted, refused, Cause, judged}
-use Rattle.ring.specs.Opening.{requestCauses, openCauses}
+use Rattle.assign.specs.declared.seen.Survey.{Survey}
+use Rattle.ring.specs.Opening.{surveyed, requestCauses, openCauses}
 use Rattle.ring.specs.Demand3.{Reason, reasons, someGiven, firstNumber}
-
--- ---- a verdict
 
 -- a test that a call made, denied
 pub denied : (r b t : Bool) → r ≡ b → not r ≡ t → not b ≡ t
 denied r b t e h = rw (← e) h
 
+-- tests of what was seen are tests of the table
+module _ (t : RingTable) (c : Circuit) (v : Survey) (e : v ≡ surveyed t c) where
+  pub seen-live : 0 < v .numbered → live (t .channels) (c .number) ≡ true
+  seen-live h = lt-ltb 0 (numbered (c .number) (circuits (t .channels))) (rw e at h)
+
+  pub seen-dead : v .numbered ≤ 0 → live (t .channels) (c .number) ≡ false
+  seen-dead h = le-ltb 0 (numbered (c .number) (circuits (t .channels))) (rw e at h)
+
+  pub seen-sends : (r : Bool) → r ≡ ltb (v .sent) (portsAt (t .ports) (c .source)) → r ≡ freeTransmitter (t .ports) (t .channels) (c .source)
+  seen-sends r h = rw e at h
+
+  pub seen-receives : (r : Bool) → r ≡ ltb (v .received) (portsAt (t .ports) (c .destination))
+      → r ≡ freeReceiver (t .ports) (t .channels) (c .destination)
+  seen-receives r h = rw e at h
+
 -- for `search verdict`: a verdict from the tests that the code made
-pub ruleset verdict = (pick-true, pick-false, said, denied, eq-eqb, ne-eqb)
+pub ruleset verdict = (pick-true, pick-false, said, denied, eq-eqb, ne-eqb, seen-live, seen-dead, seen-sends, seen-receives)
 
 -- a request that is granted is granted by the later causes
 pub granted-rest : (x : Cause) (xs : List Cause) → judged (x ∷ xs) ≡ granted → judged xs ≡ granted
@@ -58,8 +73,6 @@ allowable t c e =
       sender = ltb-true _ _ (not-false _ (h .1 .1 .1 .0));
       receiver = ltb-true _ _ (not-false _ (h .1 .1 .1 .1 .0));
     }
-
--- ---- the causes and demand 3's reasons
 
 -- one by one a cause holds where its reason is given, and has its number
 abbrev Agree : List Cause → List Reason → Type 0

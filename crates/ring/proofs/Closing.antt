@@ -1,13 +1,13 @@
 -- Closing a circuit: the answer goes by the tests; of a table that meets the ring rules a live number takes exactly its circuit off, and
 -- the rules are met again. Assumes nothing.
-use Prim.Native.Nat.{ℕ, _<_}
+use Prim.Native.Nat.{ℕ, _≤_, _<_}
 use mathlib.Core.Path.{_≡_, refl, sym, ap, subst, _∙_}
 use mathlib.Core.Logic.{_≢_}
 use mathlib.Core.Bool.{Bool, true, false, not}
 use mathlib.Core.List.{[], _∷_}
-use borrow.Author.Tests.{not-true, not-false}
+use lib.Dec.{ltb}
+use borrow.Author.Tests.{not-true, lt-ltb, le-ltb}
 use Rattle.channels.specs.Channels.{Channels, at, live, whereIs, circuitOf}
-use Rattle.channels.proofs.Numbers.{live-placed}
 use Rattle.rules.proofs.Rules.{rules-hold, limits-hold}
 use Rattle.assign.specs.Closing.{closed}
 use Rattle.assign.specs.Kept.{Kept}
@@ -15,6 +15,7 @@ use Rattle.assign.proofs.Closing.{closes, close-there}
 use Rattle.ring.specs.Table.{RingTable, meetsRules, withChannels}
 use Rattle.ring.specs.Refusal.{granted, refused, NotLive, BrokenRule}
 use Rattle.ring.specs.Closing.{Answered, closedBy, closeOf}
+use Rattle.ring.proofs.Live.{live-where}
 
 -- from the table t to t′ the circuit of number n is taken off, and nothing else is changed
 pub record TakenOff (t : RingTable) (n : ℕ) (t′ : RingTable) : Type 0 where
@@ -41,20 +42,20 @@ module _ (t : RingTable) (n : ℕ) (rules : meetsRules t ≡ true) where
   unfolding closeOf
   close-dead d = rw (rules, d)
 
-  -- a number that was found live is closed
-  pub close-found : (r : Bool) (chs : Channels) → r ≡ live (t .channels) n → not r ≡ false → chs ≡ closed (t .channels) n
+  -- it is live where it has a place
+  placed : live (t .channels) n ≡ ltb (whereIs (t .channels) n) 128
+  placed =
+      sym (live-where (t .channels) n
+      (limits-hold (t .nodes) (t .ports) (t .channels) (rules-hold (t .nodes) (t .ports) (t .channels) rules) .long))
+
+  -- a number that was found is closed
+  pub close-found : (p : ℕ) (chs : Channels) → p ≡ whereIs (t .channels) n → p < 128 → chs ≡ closed (t .channels) n
       → record { table = withChannels t chs; verdict = granted } ≡ closeOf t n
-  close-found r chs e h k = rw k (sym (close-live (sym e ∙ not-false r h)))
+  close-found p chs e h k = rw k (sym (close-live (placed ∙ lt-ltb (whereIs (t .channels) n) 128 (rw e at h))))
 
   -- one that was not is refused
-  pub close-missed : (r : Bool) → r ≡ live (t .channels) n → not r ≡ true → closedBy t n (refused NotLive) ≡ closeOf t n
-  close-missed r e h = sym (close-dead (sym e ∙ not-true r h))
-
-  -- and one found live has a place
-  pub close-placed : (r : Bool) → r ≡ live (t .channels) n → not r ≡ false → whereIs (t .channels) n < 128
-  close-placed r e h =
-      live-placed (t .channels) n (limits-hold (t .nodes) (t .ports) (t .channels) (rules-hold (t .nodes) (t .ports) (t .channels) rules) .long)
-      (sym e ∙ not-false r h)
+  pub close-missed : (p : ℕ) → p ≡ whereIs (t .channels) n → 128 ≤ p → closedBy t n (refused NotLive) ≡ closeOf t n
+  close-missed p e h = sym (close-dead (placed ∙ le-ltb (whereIs (t .channels) n) 128 (rw e at h)))
 
   -- what the closing of the places keeps
   keeps : live (t .channels) n ≡ true → Kept (t .nodes) (t .ports) (t .channels) (circuitOf (t .channels) n ∷ []) [] (closed (t .channels) n) []

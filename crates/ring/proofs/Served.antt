@@ -1,14 +1,19 @@
 -- What an opening of a table that meets the ring rules gives, by its verdict; the table after it meets them again. Assumes nothing.
-use Prim.Native.Nat.{ℕ}
+use Prim.Native.Nat.{ℕ, _≤_, _<_}
 use mathlib.Core.Path.{_≡_, refl, sym, ap, _∙_}
 use mathlib.Core.Bool.{Bool, true, not}
+use native.Mathlib.Omega.{arith}
 use lib.Dec.{ltb}
 use borrow.Author.Tests.{not-true}
 use Rattle.lightpath.specs.declared.Circuit.{Circuit}
 use Rattle.moves.specs.Records.{listed}
 use Rattle.rules.specs.Ports.{limitOf}
-use Rattle.rules.proofs.Rules.{rules-hold}
+use Rattle.basis.proofs.Bools.{and-left, and-right}
+use Rattle.rules.specs.Rules.{unlitFrom}
+use Rattle.rules.proofs.Rules.{rules-hold, limits-hold}
 use Rattle.rules.proofs.Allowable.{Allowable}
+use Rattle.assign.specs.Survey.{surveyOf}
+use Rattle.assign.specs.declared.seen.Survey.{Survey}
 use Rattle.assign.specs.Assigned.{assignedOf, Ready}
 use Rattle.assign.specs.declared.Assigned.{Assigned}
 use Rattle.assign.specs.Kept.{Served}
@@ -16,7 +21,7 @@ use Rattle.assign.proofs.Step3.{ready}
 use Rattle.assign.proofs.ByValue.{assigned-serves}
 use Rattle.ring.specs.Table.{RingTable, meetsRules}
 use Rattle.ring.specs.Refusal.{Verdict, granted, refused, ShortList, BrokenRule, _if_, judged}
-use Rattle.ring.specs.Opening.{Decision, requestCauses, openCauses, refusing, decidedBy, decideOf}
+use Rattle.ring.specs.Opening.{Decision, surveyed, requestCauses, openCauses, refusing, decidedBy, decideOf}
 use Rattle.ring.proofs.Causes.{granted-rest, allowable}
 
 -- the answer of the steps for a request
@@ -39,14 +44,24 @@ module _ (t : RingTable) (c : Circuit) (n : ℕ) (rules : meetsRules t ≡ true)
   pub decide-by : (v w : Verdict) (d : Decision) → v ≡ judged (openCauses t c n) → v ≡ w → d ≡ decidedBy t c w → d ≡ decideOf t c n
   decide-by v w d e h k = k ∙ sym (decided w (sym e ∙ h))
 
+  -- its places can be surveyed below the limit
+  pub open-survey : (m : ℕ) → m ≡ limitOf (t .ports) → (0 < t .nodes) × (m ≤ 128) × (unlitFrom m (t .channels) ≡ true)
+  open-survey m e =
+      let hold = limits-hold (t .nodes) (t .ports) (t .channels) (rules-hold (t .nodes) (t .ports) (t .channels) rules) in
+      rw e (omega (arith, hold .three), hold .below, search (and-left, and-right) depth 8)
+
+  -- and say what they say below it
+  pub open-seen : (m : ℕ) (v : Survey) → m ≡ limitOf (t .ports) → v ≡ surveyOf (t .nodes) m (t .channels) c → v ≡ surveyed t c
+  open-seen m v e h = rw e at h
+
   -- a request that no cause meets is one that the ports permit
   permits : judged (openCauses t c n) ≡ granted → Allowable (t .nodes) (t .ports) (t .channels) c
   permits e = allowable t c (granted-rest (ShortList if ltb n 3) (requestCauses t c) e)
 
   -- the table is ready for its steps
-  pub open-ready : (v : Verdict) → v ≡ judged (openCauses t c n) → v ≡ granted → Ready (t .nodes) (limitOf (t .ports)) (t .channels) c
-  open-ready v e h =
-      ready (t .nodes) (t .ports) (t .channels) c (rules-hold (t .nodes) (t .ports) (t .channels) rules) (permits (sym e ∙ h))
+  pub open-ready : (v : Verdict) (m : ℕ) → v ≡ judged (openCauses t c n) → v ≡ granted → m ≡ limitOf (t .ports) → Ready (t .nodes) m (t .channels) c
+  open-ready v m e h l =
+      rw l (ready (t .nodes) (t .ports) (t .channels) c (rules-hold (t .nodes) (t .ports) (t .channels) rules) (permits (sym e ∙ h)))
 
   -- and they serve it
   pub serves : judged (openCauses t c n) ≡ granted

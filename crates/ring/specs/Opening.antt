@@ -11,6 +11,8 @@ use Rattle.moves.specs.Records.{none}
 use Rattle.moves.specs.Lent.{blanks, written}
 use Rattle.moves.specs.declared.Move.{Move}
 use Rattle.rules.specs.Ports.{limitOf, freeTransmitter, freeReceiver}
+use Rattle.assign.specs.Survey.{surveyOf}
+use Rattle.assign.specs.declared.seen.Survey.{Survey}
 use Rattle.assign.specs.Assigned.{assignedOf}
 use Rattle.assign.specs.declared.Assigned.{Assigned}
 use Rattle.ring.specs.Table.{RingTable, meetsRules, withChannels}
@@ -20,6 +22,10 @@ pub use Rattle.ring.specs.declared.Opening.the-variants.{Taken as taken,
 pub use Rattle.ring.specs.declared.Opened.{Opened}
 pub use Rattle.ring.specs.declared.Decision.{Decision}
 pub use Rattle.ring.specs.declared.Listed.{Listed}
+
+-- what the places of the table say to a new circuit
+abbrev pub surveyed : RingTable → Circuit → Survey
+surveyed t c = surveyOf (t .nodes) (limitOf (t .ports)) (t .channels) c
 
 -- what a request is refused for: 10, 11, 12, 13, 14
 abbrev pub requestCauses : RingTable → Circuit → List Cause

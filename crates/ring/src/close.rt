@@ -18,13 +18,14 @@ impl RingTable {
         let nodes = self.nodes;
         let ports = self.ports;
         let channels = self.channels;
-        if !crate::decide::is_live(channels, number) {
+        let place = channels::place_of(channels, number);
+        if 128 <= place {
             return Answered {
                 table: self,
                 verdict: Verdict::Refused(Refusal::NotLive),
             };
         }
-        let channels = assign::without_circuit(channels, number);
+        let channels = assign::without_circuit(channels, number, place);
         Answered {
             table: RingTable {
                 nodes,

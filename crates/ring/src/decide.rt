@@ -2,29 +2,22 @@
 
 ghost use mathlib.Core.Path.{_≡_};
 ghost use mathlib.Core.Bool.{true, _&&_, not};
-ghost use Rattle.channels.specs.Channels.{live};
 ghost use Rattle.lightpath.specs.Circuit.{onRing};
 ghost use Rattle.rules.specs.Ports.{limitOf};
+ghost use Rattle.assign.specs.Survey.{surveyOf};
 ghost use Rattle.assign.specs.Assigned.{assignedOf, Ready};
 ghost use Rattle.ring.specs.Table.{meetsRules};
 ghost use Rattle.ring.specs.Refusal.{judged};
-ghost use Rattle.ring.specs.Opening.{requestCauses, openCauses, served, refusing, decideOf};
+ghost use Rattle.ring.specs.Opening.{surveyed, requestCauses, openCauses, served, refusing, decideOf};
 use crate::Decision;
 use crate::Opened;
 use crate::Opening;
 use crate::Refusal;
 use crate::RingTable;
 use crate::Verdict;
-use channels::Channel;
+use assign::Survey;
 use lightpath::Circuit;
 use moves::Moves;
-
-// Whether a circuit of the table has a number.
-pub fn is_live(channels: [Channel; 128], number: u32) -> bool
-    ensures { λ r. ⌜ r ≡ live channels number ⌝ }
-{
-    channels::place_of(channels, number) < 128
-}
 
 // Whether an end of the circuit is not on the ring.
 fn off_ring(nodes: u8, circuit: Circuit) -> bool
@@ -37,51 +30,51 @@ fn off_ring(nodes: u8, circuit: Circuit) -> bool
 }
 
 impl RingTable {
-    // What a request is refused for, by document 01's order.
-    fn request_verdict(self, circuit: Circuit) -> Verdict
+    // What a request is refused for, by document 01's order and by what was seen of the places.
+    fn request_verdict(self, circuit: Circuit, seen: Survey) -> Verdict
+        requires { ⌜ seen ≡ surveyed self circuit ⌝ }
         ensures { λ r. ⌜ r ≡ judged (requestCauses self circuit) ⌝ }
     {
         let nodes = self.nodes;
         let ports = self.ports;
-        let channels = self.channels;
         if off_ring(nodes, circuit) {
             return Verdict::Refused(Refusal::OffRing);
         }
         if circuit.source == circuit.destination {
             return Verdict::Refused(Refusal::SameNode);
         }
-        if is_live(channels, circuit.number) {
+        if 0 < seen.numbered {
             return Verdict::Refused(Refusal::NumberLive);
         }
-        if !rules::free_transmitter(ports, channels, circuit.source) {
+        if !rules::port_free(ports, circuit.source, seen.sent) {
             return Verdict::Refused(Refusal::NoTransmitter);
         }
-        if !rules::free_receiver(ports, channels, circuit.destination) {
+        if !rules::port_free(ports, circuit.destination, seen.received) {
             return Verdict::Refused(Refusal::NoReceiver);
         }
         Verdict::Granted
     }
 
     // The same with a lent list of so many records, which is asked for first.
-    fn open_verdict(self, circuit: Circuit, lent: usize) -> Verdict
+    fn open_verdict(self, circuit: Circuit, lent: usize, seen: Survey) -> Verdict
+        requires { ⌜ seen ≡ surveyed self circuit ⌝ }
         ensures { λ r. ⌜ r ≡ judged (openCauses self circuit lent) ⌝ }
     {
         if lent < 3 {
             return Verdict::Refused(Refusal::ShortList);
         }
-        self.request_verdict(circuit)
+        self.request_verdict(circuit, seen)
     }
 
-    // The circuit goes where the steps put it.
-    fn serve(self, circuit: Circuit) -> Decision
-        requires { ⌜ Ready (self .nodes) (limitOf (self .ports)) (self .channels) circuit ⌝ }
+    // The circuit goes where the steps put it, below the limit.
+    fn serve(self, circuit: Circuit, limit: usize, seen: Survey) -> Decision
+        requires { ⌜ (limit ≡ limitOf (self .ports)) × Ready (self .nodes) limit (self .channels) circuit × (seen ≡ surveyOf (self .nodes) limit (self .channels) circuit) ⌝ }
         ensures { λ r. ⌜ r ≡ served self (assignedOf (self .nodes) (limitOf (self .ports)) (self .channels) circuit) ⌝ }
     {
         let nodes = self.nodes;
         let ports = self.ports;
         let channels = self.channels;
-        let limit = rules::place_limit(ports);
-        let assigned = assign::assign(nodes, limit, channels, circuit);
+        let assigned = assign::assign(nodes, limit, channels, circuit, seen);
         let channels = assigned.channels;
         let place = assigned.place;
         let moves = assigned.moves;
@@ -120,9 +113,14 @@ impl RingTable {
         requires { ⌜ meetsRules self ≡ true ⌝ }
         ensures { λ r. ⌜ r ≡ decideOf self circuit lent ⌝ }
     {
-        let verdict = self.open_verdict(circuit, lent);
+        let nodes = self.nodes;
+        let ports = self.ports;
+        let channels = self.channels;
+        let limit = rules::place_limit(ports);
+        let seen = assign::survey_places(nodes, limit, channels, circuit);
+        let verdict = self.open_verdict(circuit, lent, seen);
         match verdict {
-            Verdict::Granted => self.serve(circuit),
+            Verdict::Granted => self.serve(circuit, limit, seen),
             Verdict::Refused(refusal) => self.refuse(refusal),
         }
     }

@@ -90,15 +90,3 @@ module _ (ks : List ℕ) (cs : List Circuit) (n : ℕ) (sent received : List ℕ
           let b = ports-from 1 ks (take n cs) e j (omega arith) in
           let k = at-node j l in
           rw (k .0, k .1) (and-both _ _ (le-leb _ _ (b .0)) (le-leb _ _ (b .1))))
-
--- ---- circuits counted place by place
-
--- a weight over the circuits of a table is the sum of its places'
-pub places-sum : (w : Circuit → ℕ) (t : Channels) (n i s : ℕ) → Summed (λ p. weigh w (held (at t p))) i s → length t ≡ n → n ≤ i → i ≤ n
-    → s ≡ weigh w (circuits t)
-places-sum w t n i s h e l k =
-    let z : i ≡ length (slots t) = omega (arith, slots-length t) in
-    (rw z at (h .so-far)) ∙ same ∙ sym (weigh-sum (λ u. weigh w (held u)) unlit (slots t)) ∙ sym (weigh-slots w (slots t))
-  where
-    same : sumBelow (λ p. weigh w (held (at t p))) (length (slots t)) ≡ sumBelow (λ p. weigh w (held (getD (slots t) p unlit))) (length (slots t))
-    same = simp (slots-at t)

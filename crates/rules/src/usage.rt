@@ -3,15 +3,14 @@
 ghost use mathlib.Core.Path.{_≡_};
 ghost use mathlib.Core.Bool.{_&&_};
 ghost use Prim.Native.Nat.{_≤_};
-ghost use lib.Dec.{leb};
+ghost use lib.Dec.{leb, ltb};
 ghost use lib.ListN.{take};
 ghost use Rattle.basis.specs.Choice.{bit};
 ghost use Rattle.channels.specs.Slot.{held};
-ghost use Rattle.channels.specs.Channels.{circuits};
-ghost use Rattle.rules.specs.Ports.{sends, receives, portsAt, freeTransmitter, freeReceiver};
+ghost use Rattle.channels.specs.Channels.{numbered};
+ghost use Rattle.rules.specs.Ports.{sends, receives, portsAt};
 ghost use Rattle.rules.specs.Rules.{portsHold};
 ghost use Rattle.rules.specs.Usage.{Tallied, enough};
-use channels::Channel;
 use channels::Slot;
 use lightpath::Circuit;
 
@@ -109,8 +108,19 @@ fn one_if(test: bool) -> usize
     if test { 1 } else { 0 }
 }
 
+// How many circuits of a place have a number.
+pub fn numbered_at(slot: Slot, number: u32) -> usize
+    ensures { λ r. ⌜ (r ≡ numbered number (held slot)) × (r ≤ 2) ⌝ }
+{
+    match slot {
+        Slot::Unlit => 0,
+        Slot::Alone(a) => one_if(a.number == number),
+        Slot::Shared(a, b) => one_if(a.number == number) + one_if(b.number == number),
+    }
+}
+
 // How many circuits of a place a node sends.
-fn sent_at(slot: Slot, node: u8) -> usize
+pub fn sent_at(slot: Slot, node: u8) -> usize
     ensures { λ r. ⌜ (r ≡ sends node (held slot)) × (r ≤ 2) ⌝ }
 {
     match slot {
@@ -121,7 +131,7 @@ fn sent_at(slot: Slot, node: u8) -> usize
 }
 
 // How many circuits of a place a node receives.
-fn received_at(slot: Slot, node: u8) -> usize
+pub fn received_at(slot: Slot, node: u8) -> usize
     ensures { λ r. ⌜ (r ≡ receives node (held slot)) × (r ≤ 2) ⌝ }
 {
     match slot {
@@ -131,48 +141,10 @@ fn received_at(slot: Slot, node: u8) -> usize
     }
 }
 
-// How many circuits of the table a node sends.
-fn sent_by(channels: [Channel; 128], node: u8) -> usize
-    ensures { λ r. ⌜ r ≡ sends node (circuits channels) ⌝ }
-{
-    let mut sum: usize = 0;
-    let mut p: usize = 0;
-    while p < 128 {
-        let channel = channels[p];
-        let slot = channel.slot;
-        sum += sent_at(slot, node);
-        p += 1;
-    }
-    sum
-}
-
-// How many circuits of the table a node receives.
-fn received_by(channels: [Channel; 128], node: u8) -> usize
-    ensures { λ r. ⌜ r ≡ receives node (circuits channels) ⌝ }
-{
-    let mut sum: usize = 0;
-    let mut p: usize = 0;
-    while p < 128 {
-        let channel = channels[p];
-        let slot = channel.slot;
-        sum += received_at(slot, node);
-        p += 1;
-    }
-    sum
-}
-
-// Whether a node has a free transmitter.
-pub fn free_transmitter(ports: [u8; 64], channels: [Channel; 128], node: u8) -> bool
-    ensures { λ r. ⌜ r ≡ freeTransmitter ports channels node ⌝ }
+// Whether a node that uses so many transmitters, or receivers, has another.
+pub fn port_free(ports: [u8; 64], node: u8, used: usize) -> bool
+    ensures { λ r. ⌜ r ≡ ltb used (portsAt ports node) ⌝ }
 {
     let most = ports_of(ports, node);
-    sent_by(channels, node) < most as usize
-}
-
-// Whether a node has a free receiver.
-pub fn free_receiver(ports: [u8; 64], channels: [Channel; 128], node: u8) -> bool
-    ensures { λ r. ⌜ r ≡ freeReceiver ports channels node ⌝ }
-{
-    let most = ports_of(ports, node);
-    received_by(channels, node) < most as usize
+    used < most as usize
 }

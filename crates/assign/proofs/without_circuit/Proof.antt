@@ -3,9 +3,6 @@ use borrow.Author.Needs.{needs}
 use Rattle.assign.proofs.without_circuit.Statement.{statement}
 use Rattle.assign.proofs.without_circuit.Tie as tie
 
-place-of-requires : tie.Need-place-of-requires
-place-of-requires c κs = search needs
-
 mul-channel : tie.Need-mul-channel
 mul-channel c = search needs
 
@@ -22,13 +19,12 @@ array-set-from-after : tie.Need-array-set-from-after
 array-set-from-after c = search needs
 
 returns : tie.Need-returns
-returns c = rw (c .without .ensures, c .before .before .place-of .ensures)
+returns c = rw (← c .before .before .pre .0, c .without .ensures)
 
 pub without-circuit-spec : {M : Type 1} → statement M
 without-circuit-spec =
     tie.close
     (tie.spec
-    place-of-requires
     mul-channel
     array-copy-out-channel
     without-requires

@@ -1,45 +1,23 @@
 -- `assign::plan::joined` meets its contract. Assumes nothing.
+use Rattle.channels.proofs.Puts.{placed}
 use borrow.Author.Needs.{needs}
 use Rattle.assign.proofs.plan.joined.Statement.{statement}
 use Rattle.assign.proofs.plan.joined.Tie as tie
 
-mul-channel : tie.Need-mul-channel
-mul-channel c = search needs
-
-array-copy-out-channel : tie.Need-array-copy-out-channel
-array-copy-out-channel c = search needs
-
-first-requires : tie.Need-first-requires
-first-requires c κs = search needs
-
 together-requires : tie.Need-together-requires
 together-requires c κs = search needs
 
-mul-after : tie.Need-mul-after
-mul-after c = search needs
+one-requires : tie.Need-one-requires
+one-requires c κs = search needs
 
-array-set-from-after : tie.Need-array-set-from-after
-array-set-from-after c = search needs
-
-cast-shared : tie.Need-cast-shared
-cast-shared c = search needs
+cast-t7 : tie.Need-cast-t7
+cast-t7 c = search needs
 
 none-requires : tie.Need-none-requires
 none-requires c κs = search needs
 
 returns : tie.Need-returns
-returns c = rw (c .none .ensures, c .before .together .ensures, c .before .before .first .ensures)
+returns c = (rw (c .none .ensures, c .before .one .ensures, c .before .before .together .ensures), search (needs, placed))
 
 pub joined-spec : {M : Type 1} → statement M
-joined-spec =
-    tie.close
-    (tie.spec
-    mul-channel
-    array-copy-out-channel
-    first-requires
-    together-requires
-    mul-after
-    array-set-from-after
-    cast-shared
-    none-requires
-    returns)
+joined-spec = tie.close (tie.spec together-requires one-requires cast-t7 none-requires returns)

@@ -1,20 +1,21 @@
 -- `ring::RingTable::close_valid` meets its contract. Assumes nothing.
-use Rattle.ring.proofs.Closing.{close-found, close-missed, close-placed}
+use Rattle.ring.proofs.Closing.{close-found, close-missed}
 use borrow.Author.Needs.{needs}
 use Rattle.ring.proofs.RingTable.close_valid.Statement.{statement}
 use Rattle.ring.proofs.RingTable.close_valid.Tie as tie
 
-is-live-requires : tie.Need-is-live-requires
-is-live-requires c κs = search needs
+place-of-requires : tie.Need-place-of-requires
+place-of-requires c κs = search needs
 
 returns : tie.Need-returns
 returns c = search (needs, close-missed)
 
 without-circuit-requires : tie.Need-without-circuit-requires
-without-circuit-requires c κs = search (needs, close-placed)
+without-circuit-requires c κs = search needs
 
 returns-2 : tie.Need-returns-2
 returns-2 c = search (needs, close-found)
 
 pub close-valid-spec : {M : Type 1} → statement M
-close-valid-spec = tie.close (tie.spec is-live-requires returns without-circuit-requires returns-2)
+close-valid-spec =
+    tie.close (tie.spec place-of-requires returns without-circuit-requires returns-2)

@@ -13,20 +13,17 @@ returns c = search verdict depth 8
 returns-2 : tie.Need-returns-2
 returns-2 c = search verdict depth 8
 
-is-live-requires : tie.Need-is-live-requires
-is-live-requires c κs = search needs
-
 returns-3 : tie.Need-returns-3
 returns-3 c = search verdict depth 8
 
-free-transmitter-requires : tie.Need-free-transmitter-requires
-free-transmitter-requires c κs = search needs
+port-free-requires : tie.Need-port-free-requires
+port-free-requires c κs = search needs
 
 returns-4 : tie.Need-returns-4
 returns-4 c = search verdict depth 8
 
-free-receiver-requires : tie.Need-free-receiver-requires
-free-receiver-requires c κs = search needs
+port-free-requires-2 : tie.Need-port-free-requires-2
+port-free-requires-2 c κs = search needs
 
 returns-5 : tie.Need-returns-5
 returns-5 c = search verdict depth 8
@@ -41,10 +38,9 @@ request-verdict-spec =
     off-ring-requires
     returns
     returns-2
-    is-live-requires
     returns-3
-    free-transmitter-requires
+    port-free-requires
     returns-4
-    free-receiver-requires
+    port-free-requires-2
     returns-5
     returns-6)

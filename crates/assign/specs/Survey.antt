@@ -1,0 +1,39 @@
+-- What the places of a table say to a new circuit. Assumes nothing.
+use Prim.Native.Nat.{ℕ, _+_, _≤_}
+use Rattle.basis.specs.Choice.{pick}
+use Rattle.lightpath.specs.declared.Circuit.{Circuit}
+use Rattle.channels.specs.Slot.{held, isLit, firstOf}
+use Rattle.channels.specs.declared.Slot.{Slot}
+use Rattle.channels.specs.Channels.{Channels, circuits, numbered}
+use Rattle.channels.specs.Nonsharing.{standingAt}
+use Rattle.channels.specs.Lit.{litOf, under, Room}
+use Rattle.rules.specs.Ports.{sends, receives}
+use Rattle.assign.specs.Steps.{canJoin, joinPlace}
+pub use Rattle.assign.specs.declared.seen.Survey.{Survey}
+
+-- how many circuits have its number, how many its source sends and its destination receives, the circuit that it can join, and the lit places
+abbrev pub surveyOf : ℕ → ℕ → Channels → Circuit → Survey
+surveyOf N m t c = record {
+  numbered = numbered (c .number) (circuits t);
+  sent = sends (c .source) (circuits t);
+  received = receives (c .destination) (circuits t);
+  join = standingAt t (joinPlace N m t c);
+  lit = litOf t;
+}
+
+-- what was seen of the places above p, and of p with the content s
+abbrev pub seenWith : ℕ → Circuit → ℕ → Slot → Survey → Survey
+seenWith N c p s v = record {
+  numbered = v .numbered + numbered (c .number) (held s);
+  sent = v .sent + sends (c .source) (held s);
+  received = v .received + receives (c .destination) (held s);
+  join = pick (canJoin N c p s) (record { place = p; circuit = firstOf s }) (v .join);
+  lit = under (v .lit) p (isLit s);
+}
+
+-- there is room for it
+pub record Takes (v : Survey) (p : ℕ) : Type 0 where
+  pub numbered : v .numbered ≤ 254
+  pub sent : v .sent ≤ 254
+  pub received : v .received ≤ 254
+  pub lit : Room (v .lit) p
