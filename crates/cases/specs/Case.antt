@@ -13,14 +13,10 @@ use Rattle.moves.specs.declared.Move.{Move}
 use Rattle.moves.specs.Lent.{blanks}
 use Rattle.rules.specs.Ports.{wavelengths}
 use Rattle.ring.specs.declared.RingTable.{RingTable}
-use Rattle.ring.specs.declared.Verdict.{Verdict}
-use Rattle.ring.specs.declared.Verdict.the-variants.{Granted as granted, Refused as notGranted}
-use Rattle.ring.specs.declared.Opening.{Opening}
-use Rattle.ring.specs.declared.Opening.the-variants.{Taken as taken, Refused as notOpened}
-use Rattle.ring.specs.Refusal.{numberOf}
 use Rattle.ring.specs.Making.{makeOf}
 use Rattle.ring.specs.Opening.{openOf, lentAfter}
 use Rattle.ring.specs.Closing.{closeOf}
+use Rattle.ring.specs.Answer.{Answer as Reply, refusal, openingAnswer, verdictAnswer}
 use Rattle.form.specs.Form.{formOf}
 
 -- what a case asks
@@ -45,14 +41,26 @@ pub data Answer : Type 0 where
   notAdjacent : Answer
   -- K and W
   dimensions : ℕ → ℕ → Answer
-  -- the table after a making or a closing
-  done : RingTable → Answer
-  -- place, moves and looks of an opening, with the lent list and the table after it
-  opened : ℕ → ℕ → ℕ → List Move → RingTable → Answer
+  -- the number and values of a making, an opening or a closing, with the lent list, if there is one, and the table after it
+  replied : Reply → List Move → RingTable → Answer
   -- the length of a form, and byte 0 of its map
   saved : ℕ → ℕ → Answer
-  -- the number of a refusal, and the table after it
-  refused : ℕ → RingTable → Answer
+
+-- the table after a making or a closing
+abbrev pub done : RingTable → Answer
+done t = replied (record { number = 0; values = [] }) [] t
+
+-- the number that refuses one, and the table after it
+abbrev pub refused : ℕ → RingTable → Answer
+refused n t = replied (refusal n) [] t
+
+-- place, moves and looks of an opening, with the lent list and the table after it
+abbrev pub opened : ℕ → ℕ → ℕ → List Move → RingTable → Answer
+opened p k looks lent t = replied (record { number = 0; values = p ∷ k ∷ looks ∷ [] }) lent t
+
+-- the number that refuses one, with the same
+abbrev pub notOpened : ℕ → List Move → RingTable → Answer
+notOpened n lent t = replied (refusal n) lent t
 
 -- a question and the answer to it
 pub record Case : Type 0 where
@@ -70,16 +78,6 @@ directions N a b =
     pick (canShare N clockwise a b) (clockwise ∷ []) []
     ++ pick (canShare N counterclockwise a b) (counterclockwise ∷ []) []
 
--- the answer to a making or a closing, by its verdict
-abbrev pub verdictGives : RingTable → Verdict → Answer
-verdictGives t granted = done t
-verdictGives t (notGranted r) = refused (numberOf r) t
-
--- the answer to an opening
-abbrev pub openingGives : List Move → RingTable → Opening → Answer
-openingGives lent t (taken p k looks) = opened (p .0) k looks lent t
-openingGives lent t (notOpened r) = refused (numberOf r) t
-
 -- the map of a form stands after N and the ports
 abbrev pub mapStart : RingTable → ℕ
 mapStart t = 1 + t .nodes
@@ -88,9 +86,9 @@ mapStart t = 1 + t .nodes
 abbrev pub answerTo : Question → Answer
 answerTo (pair N a b) = pick (adjacent a b) (shares (hops N a + hops N b) (directions N a b)) notAdjacent
 answerTo (ports ks) = dimensions (total ks) (wavelengths ks)
-answerTo (making N ks) = verdictGives (makeOf N ks .table) (makeOf N ks .verdict)
-answerTo (opening t c) = openingGives (lentAfter t c blanks) (openOf t c blanks .table) (openOf t c blanks .answer)
-answerTo (closing t n) = verdictGives (closeOf t n .table) (closeOf t n .verdict)
+answerTo (making N ks) = replied (verdictAnswer (makeOf N ks .verdict)) [] (makeOf N ks .table)
+answerTo (opening t c) = replied (openingAnswer (openOf t c blanks .answer)) (lentAfter t c blanks) (openOf t c blanks .table)
+answerTo (closing t n) = replied (verdictAnswer (closeOf t n .verdict)) [] (closeOf t n .table)
 answerTo (saving t) = saved (length (formOf t)) (getD (formOf t) (mapStart t) 0)
 
 -- a case holds when that is what it expects

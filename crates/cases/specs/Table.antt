@@ -11,7 +11,7 @@ use Rattle.moves.specs.declared.Move.{Move}
 use Rattle.moves.specs.Lent.{blanks}
 use Rattle.ring.specs.declared.RingTable.{RingTable}
 use Rattle.ring.specs.Table.{blankTable}
-use Rattle.cases.specs.Case.{pair, ports, making, opening, closing, saving, shares, notAdjacent, dimensions, done, opened, saved, refused, Case, _gives_}
+use Rattle.cases.specs.Case.{pair, ports, making, opening, closing, saving, shares, notAdjacent, dimensions, saved, done, refused, opened, notOpened, Case, _gives_}
 
 -- a circuit without a remark: number, source, destination
 abbrev circuit : ℕ → ℕ → ℕ → Circuit
@@ -112,7 +112,7 @@ cases =
     ∷ opening opened12 c13 gives opened 2 0 0 blanks opened13
     ∷ opening opened13 c14 gives opened 3 0 0 blanks opened14
     ∷ opening opened14 c15 gives opened 2 3 2 (move 12 1 0 ∷ move 11 0 1 ∷ move 13 2 1 ∷ []) opened15
-    ∷ opening opened15 (circuit 16 1 2) gives refused 13 opened15
+    ∷ opening opened15 (circuit 16 1 2) gives notOpened 13 blanks opened15
     ∷ closing opened15 13 gives done closed13
     ∷ opening closed13 c16 gives opened 1 0 0 blanks opened16
     ∷ []

@@ -1,5 +1,5 @@
--- Closing a circuit: the answer goes by the tests; of a table that meets the ring rules a live number takes exactly its circuit off, and
--- the rules are met again. Assumes nothing.
+-- Closing a circuit: the answer goes by the tests; of a table that meets the ring rules a live number takes exactly its circuit off,
+-- another is refused by 15, and the rules are met again. Assumes nothing.
 use Prim.Native.Nat.{ℕ, _≤_, _<_}
 use mathlib.Core.Path.{_≡_, refl, sym, ap, subst, _∙_}
 use mathlib.Core.Logic.{_≢_}
@@ -8,23 +8,30 @@ use mathlib.Core.List.{[], _∷_}
 use lib.Dec.{ltb}
 use borrow.Author.Tests.{not-true, lt-ltb, le-ltb}
 use Rattle.channels.specs.Channels.{Channels, at, live, whereIs, circuitOf}
-use Rattle.rules.proofs.Rules.{rules-hold, limits-hold}
+use Rattle.rules.proofs.Rules.{Rules, rules-hold, limits-hold}
 use Rattle.assign.specs.Closing.{closed}
 use Rattle.assign.specs.Kept.{Kept}
 use Rattle.assign.proofs.Closing.{closes, close-there}
 use Rattle.ring.specs.Table.{RingTable, meetsRules, withChannels}
 use Rattle.ring.specs.Refusal.{granted, refused, NotLive, BrokenRule}
 use Rattle.ring.specs.Closing.{Answered, closedBy, closeOf}
+use Rattle.ring.specs.Answer.{refusal, verdictAnswer}
 use Rattle.ring.proofs.Live.{live-where}
 
--- from the table t to t′ the circuit of number n is taken off, and nothing else is changed
-pub record TakenOff (t : RingTable) (n : ℕ) (t′ : RingTable) : Type 0 where
-  pub sameNodes : t′ .nodes ≡ t .nodes
-  pub samePorts : t′ .ports ≡ t .ports
+-- from the table t to the one answered the circuit of number n is taken off, and nothing else is changed
+pub record TakenOff (t : RingTable) (n : ℕ) (o : Answered) : Type 0 where
+  pub answer : verdictAnswer (o .verdict) ≡ record { number = 0; values = [] }
+  pub sameNodes : o .table .nodes ≡ t .nodes
+  pub samePorts : o .table .ports ≡ t .ports
   -- exactly that circuit goes, no other moves, and the ring rules are met again
-  pub kept : Kept (t .nodes) (t .ports) (t .channels) (circuitOf (t .channels) n ∷ []) [] (t′ .channels) []
+  pub kept : Kept (t .nodes) (t .ports) (t .channels) (circuitOf (t .channels) n ∷ []) [] (o .table .channels) []
   -- every other place is as it was
-  pub elsewhere : (q : ℕ) → q ≢ whereIs (t .channels) n → at (t′ .channels) q ≡ at (t .channels) q
+  pub elsewhere : (q : ℕ) → q ≢ whereIs (t .channels) n → at (o .table .channels) q ≡ at (t .channels) q
+
+-- a closing that is refused by a number leaves the table as it was
+pub record NotTaken (t : RingTable) (n : ℕ) (o : Answered) : Type 0 where
+  pub answer : verdictAnswer (o .verdict) ≡ refusal n
+  pub same : o .table ≡ t
 
 -- a table that was found to break a rule is met by 22
 pub close-unmet : (t : RingTable) (n : ℕ) (r : Bool) → r ≡ meetsRules t → not r ≡ true → closedBy t n (refused BrokenRule) ≡ closeOf t n
@@ -32,6 +39,10 @@ unfolding closeOf
 close-unmet t n r e h = rw (← e, not-true r h)
 
 module _ (t : RingTable) (n : ℕ) (rules : meetsRules t ≡ true) where
+  -- the rules, one by one
+  each : Rules (t .nodes) (t .ports) (t .channels)
+  each = rules-hold (t .nodes) (t .ports) (t .channels) rules
+
   -- a live number is closed
   pub close-live : live (t .channels) n ≡ true → closeOf t n ≡ closedBy t n granted
   unfolding closeOf
@@ -44,9 +55,7 @@ module _ (t : RingTable) (n : ℕ) (rules : meetsRules t ≡ true) where
 
   -- it is live where it has a place
   placed : live (t .channels) n ≡ ltb (whereIs (t .channels) n) 128
-  placed =
-      sym (live-where (t .channels) n
-      (limits-hold (t .nodes) (t .ports) (t .channels) (rules-hold (t .nodes) (t .ports) (t .channels) rules) .long))
+  placed = sym (live-where (t .channels) n (limits-hold (t .nodes) (t .ports) (t .channels) each .long))
 
   -- a number that was found is closed
   pub close-found : (p : ℕ) (chs : Channels) → p ≡ whereIs (t .channels) n → p < 128 → chs ≡ closed (t .channels) n
@@ -59,18 +68,23 @@ module _ (t : RingTable) (n : ℕ) (rules : meetsRules t ≡ true) where
 
   -- what the closing of the places keeps
   keeps : live (t .channels) n ≡ true → Kept (t .nodes) (t .ports) (t .channels) (circuitOf (t .channels) n ∷ []) [] (closed (t .channels) n) []
-  keeps l = closes (t .nodes) (t .ports) (t .channels) (rules-hold (t .nodes) (t .ports) (t .channels) rules) n l
+  keeps l = closes (t .nodes) (t .ports) (t .channels) each n l
 
-  -- the circuit is taken off
-  pub close-takes : live (t .channels) n ≡ true → TakenOff t n (closeOf t n .table)
+  -- the circuit of a live number is taken off
+  pub close-takes : live (t .channels) n ≡ true → TakenOff t n (closeOf t n)
   close-takes l =
-      subst (λ (a : Answered). TakenOff t n (a .table)) (sym (close-live l))
+      subst (TakenOff t n) (sym (close-live l))
       (record {
+        answer = refl;
         sameNodes = refl;
         samePorts = refl;
         kept = keeps l;
         elsewhere = close-there (t .channels) n;
       })
+
+  -- another number is refused by 15
+  pub close-refuses : live (t .channels) n ≡ false → NotTaken t 15 (closeOf t n)
+  close-refuses d = subst (NotTaken t 15) (sym (close-dead d)) (record { answer = refl; same = refl })
 
   -- whatever the answer, the table after it meets the ring rules
   pub close-rules : meetsRules (closeOf t n .table) ≡ true

@@ -21,13 +21,13 @@ use Rattle.assign.proofs.ByValue.{assigned-counts}
 use Rattle.ring.specs.Table.{RingTable, meetsRules, withChannels}
 use Rattle.ring.specs.Refusal.{granted, refused, judged}
 use Rattle.ring.specs.Opening.{Opened, Decision, openCauses, openOf, lentAfter}
+use Rattle.ring.specs.Answer.{refusal}
 use Rattle.ring.specs.Demand3.{reasons, someGiven, RefusedBy, firstNumber, Refused3, Served3, ServedBy, Demand3}
 use Rattle.ring.proofs.Causes.{none-holds, agree, none-given, some-given}
 use Rattle.ring.proofs.Served.{assigned, decided, serves}
 
 module _ (t : RingTable) (c : Circuit) (lent : List Move) (rules : meetsRules t ≡ true) where
-  -- ---- a request that no cause meets
-
+  -- a request that no cause meets
   module _ (g : judged (openCauses t c (length lent)) ≡ granted) where
     -- the places after it meet the rules
     again : Rules (t .nodes) (t .ports) (assigned t c .channels)
@@ -85,20 +85,16 @@ module _ (t : RingTable) (c : Circuit) (lent : List Move) (rules : meetsRules t 
         subst (λ (d : Decision). ServedBy t c lent (d .opened) (written lent (d .moves))) (sym (decided t c (length lent) rules granted g))
         (assigned t c .place .0, assigned t c .moves .count, assigned t c .looks, refl, after)
 
-  -- ---- a request that a cause meets
-
-  -- refused by the number of the first, with nothing changed
+  -- a request that a cause meets is refused by the number of the first, with nothing changed
   refuse : someGiven (reasons t c lent) ≡ true → Refused3 t c lent (openOf t c lent) (lentAfter t c lent)
   refuse h =
       let x = some-given (openCauses t c (length lent)) (reasons t c lent) (agree t c lent) h in
       let e = decided t c (length lent) rules (refused (x .0)) (x .1) in
       record {
-        answer = subst (λ (d : Decision). RefusedBy (firstNumber (reasons t c lent)) (d .opened .answer)) (sym e) (x .2);
+        answer = subst (λ (d : Decision). RefusedBy (firstNumber (reasons t c lent)) (d .opened .answer)) (sym e) (ap refusal (x .2));
         table = ap (λ d. d .opened .table) e;
         list = ap (λ d. written lent (d .moves)) e ∙ written-none lent;
       }
-
-  -- ---- the tables before and after are equal exactly on the causes
 
   -- where no reason is given no cause is met
   granted-none : someGiven (reasons t c lent) ≡ false → judged (openCauses t c (length lent)) ≡ granted

@@ -18,8 +18,8 @@ use Rattle.rules.specs.Rules.{carried}
 use Rattle.assign.specs.Assigned.{assignedOf}
 use Rattle.assign.specs.Kept.{moved, Names}
 use Rattle.ring.specs.Table.{RingTable, meetsRules}
-use Rattle.ring.specs.Refusal.{numberOf}
-use Rattle.ring.specs.Opening.{Opening, taken, notOpened, Opened}
+use Rattle.ring.specs.Opening.{Opening, Opened}
+use Rattle.ring.specs.Answer.{refusal, openingAnswer}
 
 -- a number of document 01, and whether its cause is there
 pub record Reason : Type 0 where
@@ -54,8 +54,7 @@ firstNumber (x ∷ xs) = pick (x .given) (x .number) (firstNumber xs)
 
 -- the answer is the refusal of a number of document 01
 abbrev pub RefusedBy : ℕ → Opening → Type 0
-RefusedBy n (taken p k looks) = ⊥
-RefusedBy n (notOpened r) = numberOf r ≡ n
+RefusedBy n o = openingAnswer o ≡ refusal n
 
 -- "the answer is then document 01's refusal"; lent memory is untouched
 pub record Refused3 (t : RingTable) (c : Circuit) (lent : List Move) (o : Opened) (lent′ : List Move) : Type 0 where
@@ -96,7 +95,8 @@ pub record Served3 (t : RingTable) (c : Circuit) (lent : List Move) (t′ : Ring
 -- the answer is a place, a number of moves and of looks
 abbrev pub ServedBy : RingTable → Circuit → List Move → Opened → List Move → Type 0
 ServedBy t c lent o lent′ =
-    (p k looks : ℕ) × (o .answer ≡ taken (record { 0 = p }) k looks) × Served3 t c lent (o .table) p k lent′
+    (p k looks : ℕ) × (openingAnswer (o .answer) ≡ record { number = 0; values = p ∷ k ∷ looks ∷ [] })
+    × Served3 t c lent (o .table) p k lent′
 
 -- the whole of it
 pub record Demand3 (t : RingTable) (c : Circuit) (lent : List Move) (o : Opened) (lent′ : List Move) : Type 0 where
