@@ -15,8 +15,6 @@ use Rattle.rules.specs.Ports.{eachAtMost}
 use Rattle.ring.specs.Refusal.{judged}
 use Rattle.ring.specs.Making.{portCauses}
 
--- ---- filling
-
 -- the first i fields are a list's, and those after are zero
 pub record Filled (ks : List ℕ) (i : ℕ) (fields : List ℕ) : Type 0 where
   pub are : fields ≡ take i ks ++ replicate (64 - i) 0
@@ -51,8 +49,6 @@ filled-end ks i fields h l m = let e : i ≡ length ks = omega arith in (rw e at
 
 -- for `search (needs, filled)`
 pub ruleset filled = (filled-start, filled-next, filled-end)
-
--- ---- judging
 
 -- zeros are within any limit
 each-append : (m : ℕ) (xs : List ℕ) (n : ℕ) → eachAtMost m (xs ++ replicate n 0) ≡ eachAtMost m xs

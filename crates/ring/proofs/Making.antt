@@ -19,8 +19,6 @@ use Rattle.ring.specs.Making.{portCauses, makeCauses, madeBy, makeOf}
 use Rattle.ring.proofs.Causes.{none-holds}
 use Rattle.ring.proofs.Fields.{fields-judged}
 
--- ---- the answer, by what the code finds
-
 module _ (N : ℕ) (ks : List ℕ) (r : Bool) (e : r ≡ (leb 3 N && leb N 64 && eqb (length ks) N)) where
   -- a number of nodes that was found not to hold is refused by 1
   pub make-count : (b : RingTable) → not r ≡ true → b ≡ blankTable → record { table = b; verdict = refused NodeCount } ≡ makeOf N ks
@@ -52,8 +50,6 @@ module _ (N : ℕ) (ks : List ℕ) (r : Bool) (e : r ≡ (leb 3 N && leb N 64 &&
 
 -- for `search (needs, making)`
 pub ruleset making = (make-count, count-most, make-granted, make-refused)
-
--- ---- the ring rules
 
 -- within the limits, a fresh table meets the rules
 fresh-meets : (N : ℕ) (ks : List ℕ) → judged (makeCauses N ks) ≡ granted → meetsRules (freshTable N ks) ≡ true

@@ -1,16 +1,19 @@
--- What an opening of a table that meets the ring rules gives, by its verdict; the table after it meets them again. Assumes nothing.
+-- What an opening of a table that meets the ring rules gives, by its verdict; the table after it meets them again, and the looks are at most
+-- 8,256. Assumes nothing.
 use Prim.Native.Nat.{ℕ, _≤_, _<_}
 use mathlib.Core.Path.{_≡_, refl, sym, ap, _∙_}
 use mathlib.Core.Bool.{Bool, true, not}
+use mathlib.Core.List.{[], _∷_}
 use native.Mathlib.Omega.{arith}
 use lib.Dec.{ltb}
+use lib.ListN.{getD}
 use borrow.Author.Tests.{not-true}
 use Rattle.lightpath.specs.declared.Circuit.{Circuit}
 use Rattle.moves.specs.Records.{listed}
 use Rattle.rules.specs.Ports.{limitOf}
 use Rattle.basis.proofs.Bools.{and-left, and-right}
 use Rattle.rules.specs.Rules.{unlitFrom}
-use Rattle.rules.proofs.Rules.{rules-hold, limits-hold}
+use Rattle.rules.proofs.Rules.{Rules, rules-hold, limits-hold}
 use Rattle.rules.proofs.Allowable.{Allowable}
 use Rattle.assign.specs.Survey.{surveyOf}
 use Rattle.assign.specs.declared.seen.Survey.{Survey}
@@ -18,10 +21,11 @@ use Rattle.assign.specs.Assigned.{assignedOf, Ready}
 use Rattle.assign.specs.declared.Assigned.{Assigned}
 use Rattle.assign.specs.Kept.{Served}
 use Rattle.assign.proofs.Step3.{ready}
-use Rattle.assign.proofs.ByValue.{assigned-serves}
+use Rattle.assign.proofs.ByValue.{assigned-serves, assigned-looks}
 use Rattle.ring.specs.Table.{RingTable, meetsRules}
 use Rattle.ring.specs.Refusal.{Verdict, granted, refused, ShortList, BrokenRule, _if_, judged}
 use Rattle.ring.specs.Opening.{Decision, surveyed, requestCauses, openCauses, refusing, decidedBy, decideOf}
+use Rattle.ring.specs.Answer.{Answer, openingAnswer}
 use Rattle.ring.proofs.Causes.{granted-rest, allowable}
 
 -- the answer of the steps for a request
@@ -35,6 +39,10 @@ unfolding decideOf
 decide-unmet t c n r d e h k = rw (← e, not-true r h) k
 
 module _ (t : RingTable) (c : Circuit) (n : ℕ) (rules : meetsRules t ≡ true) where
+  -- the rules, one by one
+  each : Rules (t .nodes) (t .ports) (t .channels)
+  each = rules-hold (t .nodes) (t .ports) (t .channels) rules
+
   -- 22 does not come up
   pub decided : (v : Verdict) → judged (openCauses t c n) ≡ v → decideOf t c n ≡ decidedBy t c v
   unfolding decideOf
@@ -47,7 +55,7 @@ module _ (t : RingTable) (c : Circuit) (n : ℕ) (rules : meetsRules t ≡ true)
   -- its places can be surveyed below the limit
   pub open-survey : (m : ℕ) → m ≡ limitOf (t .ports) → (0 < t .nodes) × (m ≤ 128) × (unlitFrom m (t .channels) ≡ true)
   open-survey m e =
-      let hold = limits-hold (t .nodes) (t .ports) (t .channels) (rules-hold (t .nodes) (t .ports) (t .channels) rules) in
+      let hold = limits-hold (t .nodes) (t .ports) (t .channels) each in
       rw e (omega (arith, hold .three), hold .below, search (and-left, and-right) depth 8)
 
   -- and say what they say below it
@@ -60,14 +68,12 @@ module _ (t : RingTable) (c : Circuit) (n : ℕ) (rules : meetsRules t ≡ true)
 
   -- the table is ready for its steps
   pub open-ready : (v : Verdict) (m : ℕ) → v ≡ judged (openCauses t c n) → v ≡ granted → m ≡ limitOf (t .ports) → Ready (t .nodes) m (t .channels) c
-  open-ready v m e h l =
-      rw l (ready (t .nodes) (t .ports) (t .channels) c (rules-hold (t .nodes) (t .ports) (t .channels) rules) (permits (sym e ∙ h)))
+  open-ready v m e h l = rw l (ready (t .nodes) (t .ports) (t .channels) c each (permits (sym e ∙ h)))
 
   -- and they serve it
   pub serves : judged (openCauses t c n) ≡ granted
       → Served (t .nodes) (t .ports) (t .channels) c (assigned t c .channels) (assigned t c .place .0) (listed (assigned t c .moves))
-  serves e =
-      assigned-serves (t .nodes) (t .ports) (t .channels) c (rules-hold (t .nodes) (t .ports) (t .channels) rules) (permits e)
+  serves e = assigned-serves (t .nodes) (t .ports) (t .channels) c each (permits e)
 
   -- whatever the answer, the table after it meets the ring rules
   pub open-rules : meetsRules (decideOf t c n .opened .table) ≡ true
@@ -76,3 +82,15 @@ module _ (t : RingTable) (c : Circuit) (n : ℕ) (rules : meetsRules t ≡ true)
       go : (v : Verdict) → judged (openCauses t c n) ≡ v → meetsRules (decideOf t c n .opened .table) ≡ true
       go granted e = ap (λ d. meetsRules (d .opened .table)) (decided granted e) ∙ serves e .kept .rules
       go (refused r) e = ap (λ d. meetsRules (d .opened .table)) (decided (refused r) e) ∙ rules
+
+  -- the looks answered are never above 8,256
+  pub open-looks : (p k looks : ℕ) → openingAnswer (decideOf t c n .opened .answer) ≡ record { number = 0; values = p ∷ k ∷ looks ∷ [] } → looks ≤ 8256
+  open-looks p k looks h = go (judged (openCauses t c n)) refl
+    where
+      -- the third value is the looks
+      third : (v : Verdict) → judged (openCauses t c n) ≡ v → getD (openingAnswer (decidedBy t c v .opened .answer) .values) 2 0 ≡ looks
+      third v e = ap (λ (a : Answer). getD (a .values) 2 0) (rw (decided v e) at h)
+
+      go : (v : Verdict) → judged (openCauses t c n) ≡ v → looks ≤ 8256
+      go granted e = rw (← third granted e) (assigned-looks (t .nodes) (limitOf (t .ports)) (t .channels) c (open-ready granted (limitOf (t .ports)) (sym e) refl refl))
+      go (refused r) e = omega (arith, third (refused r) e)

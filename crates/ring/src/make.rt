@@ -27,7 +27,7 @@ fn port_fields(ports: &[u8]) -> [u8; 64]
     fields
 }
 
-// Whether the number of nodes is from 3 to 64 and that of the port counts.
+// Whether the number of nodes is from 3 to 64, and the list of port counts that long.
 fn node_count_holds(nodes: u8, ports: &[u8]) -> bool
     ensures { λ r. ⌜ r ≡ (leb 3 nodes && leb nodes 64 && eqb (length (now (ports .entry))) nodes) ⌝ }
 {

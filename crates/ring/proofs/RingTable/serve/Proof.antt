@@ -7,7 +7,10 @@ assign-requires : tie.Need-assign-requires
 assign-requires c κs = search needs
 
 returns : tie.Need-returns
-returns c = let made = c .before .before .before in rw (made .assign .ensures, made .before .before .before .pre .0)
+returns c =
+    let made = c .before .before .before in
+    let start = made .before .before .before in
+    rw (made .assign .ensures, start .pre .0)
 
 pub serve-spec : {M : Type 1} → statement M
 serve-spec = tie.close (tie.spec assign-requires returns)
