@@ -1,4 +1,4 @@
--- The causes of a refusal: none of them leaves a request that the ports permit, and demand 3's own list of reasons agrees with them.
+-- Demand 3's own list of reasons agrees with the causes of a refusal, and a request that none of them meets is one that the ports permit.
 -- Assumes nothing.
 use Prim.Native.Nat.{_≤_, _<_}
 use mathlib.Core.Path.{_≡_, refl, sym, ap}
@@ -46,6 +46,45 @@ module _ (t : RingTable) (c : Circuit) (v : Survey) (e : v ≡ surveyed t c) whe
 -- for `search verdict`: a verdict from the tests that the code made
 pub ruleset verdict = (pick-true, pick-false, said, denied, eq-eqb, ne-eqb, seen-live, seen-dead, seen-sends, seen-receives)
 
+-- one by one a cause holds where its reason is given, and has its number
+abbrev Agree : List Cause → List Reason → Type 0
+Agree [] [] = Unit {0}
+Agree [] (y ∷ ys) = ⊥
+Agree (x ∷ xs) [] = ⊥
+Agree (x ∷ xs) (y ∷ ys) = (x .holds ≡ y .given) × (numberOf (x .refusal) ≡ y .number) × Agree xs ys
+
+-- a node off the ring, by each of its two bounds
+off-ring : (a b c d : Bool) → not ((a && b) && (c && d)) ≡ (not a || not b || not c || not d)
+off-ring true true true d = refl
+off-ring true true false d = refl
+off-ring true false c d = refl
+off-ring false b c d = refl
+
+-- so it is with an opening's causes
+pub agree : (t : RingTable) (c : Circuit) (lent : List Move) → Agree (openCauses t c (length lent)) (reasons t c lent)
+agree t c lent = (
+  refl,
+  refl,
+  (
+    rw (← not-leb 1 (c .source), ← not-leb (c .source) (t .nodes), ← not-leb 1 (c .destination), ← not-leb (c .destination) (t .nodes))
+        (off-ring (leb 1 (c .source)) (leb (c .source) (t .nodes)) (leb 1 (c .destination)) (leb (c .destination) (t .nodes))),
+    refl,
+    (
+      refl,
+      refl,
+      (
+        refl,
+        refl,
+        (
+          not-ltb (sends (c .source) (circuits (t .channels))) (portsAt (t .ports) (c .source)),
+          refl,
+          (not-ltb (receives (c .destination) (circuits (t .channels))) (portsAt (t .ports) (c .destination)), refl, tt),
+        ),
+      ),
+    ),
+  ),
+)
+
 -- a request that is granted is granted by the later causes
 pub granted-rest : (x : Cause) (xs : List Cause) → judged (x ∷ xs) ≡ granted → judged xs ≡ granted
 granted-rest x xs e = go (x .holds) e
@@ -73,45 +112,6 @@ allowable t c e =
       sender = ltb-true _ _ (not-false _ (h .1 .1 .1 .0));
       receiver = ltb-true _ _ (not-false _ (h .1 .1 .1 .1 .0));
     }
-
--- one by one a cause holds where its reason is given, and has its number
-abbrev Agree : List Cause → List Reason → Type 0
-Agree [] [] = Unit {0}
-Agree [] (y ∷ ys) = ⊥
-Agree (x ∷ xs) [] = ⊥
-Agree (x ∷ xs) (y ∷ ys) = (x .holds ≡ y .given) × (numberOf (x .refusal) ≡ y .number) × Agree xs ys
-
--- a node off the ring, by each of its two bounds
-off-ring : (a b c d : Bool) → not ((a && b) && (c && d)) ≡ (not a || not b || not c || not d)
-off-ring true true true d = refl
-off-ring true true false d = refl
-off-ring true false c d = refl
-off-ring false b c d = refl
-
--- so it is with an opening's
-pub agree : (t : RingTable) (c : Circuit) (lent : List Move) → Agree (openCauses t c (length lent)) (reasons t c lent)
-agree t c lent = (
-  refl,
-  refl,
-  (
-    rw (← not-leb 1 (c .source), ← not-leb (c .source) (t .nodes), ← not-leb 1 (c .destination), ← not-leb (c .destination) (t .nodes))
-        (off-ring (leb 1 (c .source)) (leb (c .source) (t .nodes)) (leb 1 (c .destination)) (leb (c .destination) (t .nodes))),
-    refl,
-    (
-      refl,
-      refl,
-      (
-        refl,
-        refl,
-        (
-          not-ltb (sends (c .source) (circuits (t .channels))) (portsAt (t .ports) (c .source)),
-          refl,
-          (not-ltb (receives (c .destination) (circuits (t .channels))) (portsAt (t .ports) (c .destination)), refl, tt),
-        ),
-      ),
-    ),
-  ),
-)
 
 -- where no reason is given the request is granted
 pub none-given : (xs : List Cause) (ys : List Reason) → Agree xs ys → someGiven ys ≡ false → judged xs ≡ granted

@@ -24,7 +24,7 @@ use Rattle.assign.proofs.Step3.{ready}
 use Rattle.assign.proofs.ByValue.{assigned-serves, assigned-looks}
 use Rattle.ring.specs.Table.{RingTable, meetsRules}
 use Rattle.ring.specs.Refusal.{Verdict, granted, refused, ShortList, BrokenRule, _if_, judged}
-use Rattle.ring.specs.Opening.{Decision, surveyed, requestCauses, openCauses, refusing, decidedBy, decideOf}
+use Rattle.ring.specs.Opening.{Decision, surveyed, requestCauses, openCauses, served, refusing, decidedBy, decideOf}
 use Rattle.ring.specs.Answer.{Answer, openingAnswer}
 use Rattle.ring.proofs.Causes.{granted-rest, allowable}
 
@@ -37,6 +37,11 @@ pub decide-unmet : (t : RingTable) (c : Circuit) (n : ℕ) (r : Bool) (d : Decis
     → d ≡ refusing t BrokenRule → d ≡ decideOf t c n
 unfolding decideOf
 decide-unmet t c n r d e h k = rw (← e, not-true r h) k
+
+-- what the steps gave below the limit is served
+pub served-by : (t : RingTable) (c : Circuit) (m : ℕ) (a : Assigned) (d : Decision) → a ≡ assignedOf (t .nodes) m (t .channels) c
+    → m ≡ limitOf (t .ports) → d ≡ served t a → d ≡ served t (assigned t c)
+served-by t c m a d e l k = k ∙ ap (served t) (rw (e, l))
 
 module _ (t : RingTable) (c : Circuit) (n : ℕ) (rules : meetsRules t ≡ true) where
   -- the rules, one by one

@@ -1,4 +1,5 @@
 -- `ring::RingTable::serve` meets its contract. Assumes nothing.
+use Rattle.ring.proofs.Served.{served-by}
 use borrow.Author.Needs.{needs}
 use Rattle.ring.proofs.RingTable.serve.Statement.{statement}
 use Rattle.ring.proofs.RingTable.serve.Tie as tie
@@ -7,10 +8,7 @@ assign-requires : tie.Need-assign-requires
 assign-requires c κs = search needs
 
 returns : tie.Need-returns
-returns c =
-    let made = c .before .before .before in
-    let start = made .before .before .before in
-    rw (made .assign .ensures, start .pre .0)
+returns c = search (needs, served-by)
 
 pub serve-spec : {M : Type 1} → statement M
 serve-spec = tie.close (tie.spec assign-requires returns)
