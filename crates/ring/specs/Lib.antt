@@ -1,3 +1,4 @@
+-- The definitions of the ring table: its causes of refusal, its calls, their answers in numbers, and demand 3.
 pub mod Table
 pub mod Refusal
 pub mod Making
