@@ -1,6 +1,6 @@
 -- The answer of the steps by value opens the circuit: its moves are the plan's, counted. Assumes nothing.
 use Prim.Native.Nat.{ℕ, _≤_}
-use mathlib.Core.Path.{_≡_, refl, sym, ap, _∙_}
+use mathlib.Core.Path.{_≡_, refl, sym}
 use mathlib.Core.Bool.{Bool, true, false}
 use mathlib.Core.List.{List, [], _∷_}
 use native.Mathlib.Omega.{arith}
@@ -28,7 +28,7 @@ use Rattle.assign.proofs.Steps.{plan-good}
 use Rattle.assign.proofs.Looks.{looks-most}
 
 -- up to three moves by value are listed again as they were
-pub listed-moves : (ms : List Move) → length ms ≤ 3 → listed (movesOf ms) ≡ ms
+listed-moves : (ms : List Move) → length ms ≤ 3 → listed (movesOf ms) ≡ ms
 listed-moves [] h = refl
 listed-moves (a ∷ []) h = refl
 listed-moves (a ∷ b ∷ []) h = refl
@@ -41,10 +41,6 @@ count-most [] = omega arith
 count-most (a ∷ []) = omega arith
 count-most (a ∷ b ∷ []) = omega arith
 count-most (a ∷ b ∷ c ∷ ms) = omega arith
-
--- up to three are counted
-pub count-moves : (ms : List Move) → length ms ≤ 3 → movesOf ms .count ≡ length ms
-count-moves ms h = sym (length-listed (movesOf ms) (count-most ms)) ∙ ap length (listed-moves ms h)
 
 -- one to three changes by value do what their list does
 carries : (l : List Change) (t : Channels) → 1 ≤ length l → length l ≤ 3 → puts (inOrder (changesOf l)) t ≡ puts l t

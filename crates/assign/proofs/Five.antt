@@ -34,8 +34,6 @@ use Rattle.assign.proofs.Sound.{Inside, has, old-place, serves}
 abbrev pub Good : ℕ → List ℕ → Channels → Circuit → Plan → Type 0
 Good N ks t c plan = Served N ks t c (puts (plan .changes) t) (plan .taken) (plan .moves)
 
--- ---- two at one place
-
 -- two together weigh what both do
 together-weighs : (w : Circuit → ℕ) (a b : Circuit) → weigh w (held (together a b)) ≡ w a + w b
 together-weighs w a b = go (ltb (a .number) (b .number))
@@ -53,8 +51,6 @@ left a b = omega (arith, together-weighs (ofNumber (a .number)) a b, bit-eq (a .
 
 right : (a b : Circuit) → Inside (together a b) b
 right a b = omega (arith, together-weighs (ofNumber (b .number)) a b, bit-eq (b .number) (b .number) refl)
-
--- ---- the nonsharing circuits of a table that meets the rules
 
 module _ (N : ℕ) (ks : List ℕ) (t : Channels) (rules : Rules N ks t) where
   -- a usable place is a place of the table
@@ -79,8 +75,6 @@ module _ (N : ℕ) (ks : List ℕ) (t : Channels) (rules : Rules N ks t) where
   olds-fit : (p : ℕ) (a b : Standing) → Stands (limitOf ks) t a → Stands (limitOf ks) t b → a .place ≢ b .place
       → canShare N (directionOf p) (a .circuit) (b .circuit) ≡ true → fits N p (together (a .circuit) (b .circuit)) ≡ true
   olds-fit p a b sa sb n can = together-fits N p (a .circuit) (b .circuit) (ends a sa) (ends b sb) can (two-numbers a b sa sb n)
-
--- ---- the cases
 
 module _ (N : ℕ) (ks : List ℕ) (t : Channels) (c : Circuit) (rules : Rules N ks t) (may : Allowable N ks t c) where
   -- an old one and the new one fit together where they can share

@@ -27,7 +27,7 @@ picked true x y k h i = h
 picked false x y k h i = i
 
 -- each case of step 3 hands on the looks
-pub rearranging-looks : (N m : ℕ) (t : Channels) (c : Circuit) (a b : Standing) (k : ℕ) → rearranging N m t c a b k .looks ≡ k
+rearranging-looks : (N m : ℕ) (t : Channels) (c : Circuit) (a b : Standing) (k : ℕ) → rearranging N m t c a b k .looks ≡ k
 rearranging-looks N m t c a b k =
     picked (standsRight N a b a) _ _ k refl (picked (standsRight N a b b) _ _ k refl (picked (ltb (b .place) nowhere) _ _ k refl refl))
 

@@ -17,8 +17,6 @@ use Rattle.channels.specs.declared.Standing.{Standing}
 use Rattle.assign.specs.Steps.{newcomer, candidates, adjacentPair, passed}
 use Rattle.assign.specs.Pairs.{Pair, blankStanding, passedIn, firstPair, pairOf}
 
--- ---- the candidates in an array
-
 -- the length of an array of structs, which is known of the list of what they are stored as
 pub array-length : (X Y : Type 0) (stored : X → Y) (array : List X) (n : ℕ) → length (map stored array) ≡ n → length array ≡ n
 array-length X Y stored array n e = sym (length-map array stored) ∙ e
@@ -31,8 +29,6 @@ gathers-more {count = count} {array} {list} room x e l h = record {
   counted = rw (length-append list (x ∷ []), h .counted);
   fits = omega (arith, h .fits);
 }
-
--- ---- the first hit of a list
 
 -- k elements have been passed, none of which is a hit, and these are left
 pub record Left {A : Type 0} (f : A → Bool) (l : List A) (k : ℕ) (rest : List A) : Type 0 where
@@ -59,8 +55,6 @@ module _ {A : Type 0} {f : A → Bool} {l : List A} where
   -- where none is left there is no hit
   left-end : {k : ℕ} → Left f l k [] → length l ≤ firstPlace f l
   left-end {k} h = omega (arith, h .none, length-drop k l, ap length (h .suffix))
-
--- ---- the two loops over the first n of an array
 
 -- the search is at the row of position i, with so many looks behind it
 pub record AtRow (list : List Standing) (n i looks : ℕ) : Type 0 where
@@ -111,8 +105,6 @@ module _ {list : List Standing} {n : ℕ} where
   pairs-end {i} p q h found = absurd (omega (arith, left-end (rw (past list n i (q .room) h) at (q .left))))
 
 pub ruleset seek = (array-length, pairs-start, row-enter, row-leave, pair-miss, pair-hit, pairs-end)
-
--- ---- the pair found
 
 -- an element that there is does not depend on the default
 any-default : {A : Type 0} (d e : A) (l : List A) (i : ℕ) → i < length l → getD l i d ≡ getD l i e

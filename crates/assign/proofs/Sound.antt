@@ -68,8 +68,6 @@ pub record Sound (N : ℕ) (t : Channels) (gone new : List Circuit) (chs : List 
   pub stayed : All (λ m. Has t (m .place) (m .circuit) × Gets chs (m .place) (m .circuit)) stay
   pub went : All (λ s. Has t (s .who .place) (s .who .circuit) × Gets chs (s .to) (s .who .circuit) × (s .who .place ≢ s .to)) go
 
--- ---- counts of the records
-
 -- the records of a number are the shifts of it
 shift-tally : (k : ℕ) (ss : List Shift) → tally (λ m. m .number) k (shifts ss) ≡ weigh (λ s. ofNumber k (s .who .circuit)) ss
 shift-tally k [] = refl
@@ -95,8 +93,6 @@ zero-bit m n e = rw (eq-eqb m n e)
 abbrev astray : Channels → Channels → List Move → Circuit → ℕ
 astray t t′ ms x = bit (not (eqb (tally (λ m. m .number) (x .number) ms) (bit (moved t t′ x))))
 
--- ---- where a circuit stands
-
 module _ (N : ℕ) (ks : List ℕ) (t : Channels) (rules : Rules N ks t) where
   -- a nonsharing circuit is at its place
   pub has : (m : Standing) → Stands (limitOf ks) t m → Has t (m .place) (m .circuit)
@@ -107,8 +103,6 @@ module _ (N : ℕ) (ks : List ℕ) (t : Channels) (rules : Rules N ks t) where
   -- what is at a place stands there
   pub old-place : (q : ℕ) (x : Circuit) → Has t q x → whereIs t (x .number) ≡ q
   old-place q x h = stands-at t (rules .numbers) (x .number) q (h .0) (h .1)
-
--- ---- where the new ones' numbers are new and their ports free, all is kept
 
 module _ (N : ℕ) (ks : List ℕ) (t : Channels) (gone new : List Circuit) (chs : List Change) (stay : List Standing) (go : List Shift) (rules : Rules N ks t)
     (numbers : distinct (λ c. c .number) (new ++ circuits t) ≡ true) (ports : PortsHold ks (new ++ circuits t)) (s : Sound N t gone new chs stay go)
@@ -278,8 +272,6 @@ module _ (N : ℕ) (ks : List ℕ) (t : Channels) (gone new : List Circuit) (chs
     once = all-map _ _ (λ x h. bit-zero _ _ h) (circuits t) (weigh-zero _ (circuits t) none-astray);
     links = rules-links N ks (puts chs t) again;
   }
-
--- ---- an opening
 
 -- changes below a limit leave the places above it
 pub stays-above : (m : ℕ) (chs : List Change) (t : Channels) → All (λ ch. ch .place < m) chs → (q : ℕ) → m ≤ q → at (puts chs t) q ≡ at t q

@@ -33,11 +33,11 @@ place-low w W counterclockwise l = omega arith
 module _ (N : ℕ) (ks : List ℕ) (t : Channels) (c : Circuit) (rules : Rules N ks t) (may : Allowable N ks t c)
     (lit : (p : ℕ) → p < limitOf ks → isUnlit (at t p) ≡ false) where
   -- the search finds an adjacent pair
-  pub pair-found : passed (limitOf ks) t c < length (pairsOf (candidates (limitOf ks) t c))
+  pair-found : passed (limitOf ks) t c < length (pairsOf (candidates (limitOf ks) t c))
   pair-found = pair-exists ks (take (limitOf ks) (slots t)) (newcomer c) (table-full N ks t c rules may lit)
 
   -- each direction has a nonsharing circuit
-  pub lane-found : (d : Direction) → lowestAlone (limitOf ks) t d < limitOf ks
+  lane-found : (d : Direction) → lowestAlone (limitOf ks) t d < limitOf ks
   lane-found d =
       let k = limits-hold N ks t rules in
       let x = alone-exists ks (take (limitOf ks) (slots t)) c (table-full N ks t c rules may lit) d in

@@ -8,7 +8,7 @@ use lib.Dec.{eqb, ltb}
 use lib.ListN.{length, drop}
 use borrow.Author.Tests.{lt-ltb, le-ltb}
 use Rattle.basis.specs.Choice.{pick, bit}
-use Rattle.basis.specs.Count.{weigh, tally}
+use Rattle.basis.specs.Count.{tally}
 use Rattle.basis.specs.Search.{firstBelow}
 use Rattle.basis.proofs.Weigh.{bit-most}
 use Rattle.basis.proofs.Search.{every-at}
@@ -19,7 +19,7 @@ use Rattle.channels.specs.declared.Slot.the-variants.{Unlit as unlit}
 use Rattle.channels.specs.Channels.{Channels, at, circuits, numbered}
 use Rattle.channels.specs.Nonsharing.{standingAt}
 use Rattle.channels.specs.declared.Standing.{Standing}
-use Rattle.channels.specs.Lit.{litBit, litAt}
+use Rattle.channels.specs.Lit.{litBit}
 use Rattle.channels.proofs.Below.{first-within, none-within}
 use Rattle.channels.proofs.Places.{is-unlit, none-there, weigh-from, weigh-unlit, weigh-most}
 use Rattle.channels.proofs.Words.{Built, built-start, built-room, built-next, built-end, unlit-words}
@@ -134,7 +134,7 @@ module _ (N m : ℕ) (t : Channels) (c : Circuit) (v : Survey) (e : v ≡ survey
     lowest : u ≡ firstBelow 128 (λ p. isUnlit (at t p))
     lowest = w ∙ ap (λ (s : Survey). firstBelow 128 (λ p. not (litBit (s .lit) p))) e ∙ unlit-words t
 
-    pub seen-unlit : m ≤ 128 → u < m → u ≡ unlitPlace N m t c
+    seen-unlit : m ≤ 128 → u < m → u ≡ unlitPlace N m t c
     seen-unlit l h = first-within m 128 (λ p. isUnlit (at t p)) u lowest l h
 
     pub seen-none : m ≤ u → m ≡ unlitPlace N m t c

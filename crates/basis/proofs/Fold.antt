@@ -6,7 +6,7 @@ use native.Mathlib.Nat.{le-of-suc-le-suc}
 use native.Mathlib.Omega.{arith}
 use native.Mathlib.Numerals.{add-one}
 use lib.ListN.{length, getD, take, drop}
-use Rattle.basis.specs.Count.{weigh, total}
+use Rattle.basis.specs.Count.{total}
 use Rattle.basis.proofs.Sums.{sumBelow}
 
 -- one number more
@@ -25,11 +25,6 @@ sum-start f = record { so-far = refl }
 -- its step
 pub sum-next : (f : ℕ → ℕ) (i s x : ℕ) → Summed f i s → x ≡ f i → Summed f (i + 1) (s + x)
 sum-next f i s x h e = record { so-far = rw add-one (omega (arith, h .so-far, sum-suc f i)) }
-
--- a weight over a list, position by position
-pub weigh-sum : {A : Type 0} (w : A → ℕ) (d : A) (xs : List A) → weigh w xs ≡ sumBelow (λ i. w (getD xs i d)) (length xs)
-weigh-sum w d [] = refl
-weigh-sum w d (x ∷ xs) = omega (arith, weigh-sum w d xs)
 
 -- the first n of a list of numbers, position by position
 total-take : (ks : List ℕ) (n : ℕ) → n ≤ length ks → total (take n ks) ≡ sumBelow (λ i. getD ks i 0) n

@@ -12,8 +12,6 @@ use Rattle.basis.specs.Search.{firstBelow}
 use Rattle.basis.proofs.Weigh.{bit-most}
 use Rattle.channels.specs.Lit.{bitOf, word, countBelow}
 
--- ---- one bit at a time
-
 -- the lowest bit is what is left by halving
 bit-zero : (w : ℕ) → bitOf w 0 ≡ eqb (w % 2) 1
 unfolding bitOf
@@ -35,8 +33,6 @@ low-clear w e = bit-zero w ∙ ne-eqb (w % 2) 1 (λ h. omega arith)
 half-lt : (k w : ℕ) → w < 2 ^ suc k → w / 2 < 2 ^ k
 half-lt k w h = omega (arith, pow-suc 2 k)
 
--- ---- the number of ones
-
 -- the ones of a word of k bits are its bits that stand
 pub ones-count : (k w : ℕ) → w < 2 ^ k → ones w ≡ countBelow k (bitOf w)
 unfolding ones
@@ -47,8 +43,6 @@ ones-count (suc k) w h = go (w % 2) refl (ones-count k (w / 2) (half-lt k w h))
     go zero e rest = ones-step w ∙ simp (low-clear w e, bit-suc, e, rest)
     go (suc zero) e rest = ones-step w ∙ simp (low-set w e, bit-suc, e, rest)
     go (suc (suc r)) e rest = absurd (omega arith)
-
--- ---- trailing zeros of the complement
 
 -- the complement of w at one more bit: its lowest bit, and the others
 comp-even : (k w : ℕ) → w < 2 ^ suc k → w % 2 ≡ 0 → (2 ^ suc k - 1 - w) % 2 ≡ 1
@@ -71,8 +65,6 @@ trailing-first (suc k) w h = go (w % 2) refl (trailing-first k (w / 2) (half-lt 
     go zero e rest = simp (comp-even k w h e, low-clear w e)
     go (suc zero) e rest = simp (comp-odd k w h e, low-set w e, comp-half k w h, bit-suc, rest)
     go (suc (suc r)) e rest = absurd (omega arith)
-
--- ---- words that are made bit by bit
 
 -- a word of k places has k bits
 pub word-lt : (f : ℕ → Bool) (k i : ℕ) → word f k i < 2 ^ k

@@ -5,18 +5,13 @@ use mathlib.Core.List.{List, [], _∷_, _++_, append-assoc, append-nil}
 use native.Mathlib.Nat.{le-of-suc-le-suc, not-suc-le-zero, suc-add, add-suc, add-zero, zero-add}
 use native.Mathlib.Numerals.{add-one}
 use native.Mathlib.Omega.{arith}
-use lib.ListN.{length, getD, set, take, length-set}
-use lib.Seq.{take-suc-set, length-take-le, getD-take}
+use lib.ListN.{length, set, take, length-set}
+use lib.Seq.{take-suc-set, length-take-le}
 use Rattle.lightpath.specs.declared.Circuit.{Circuit}
 use Rattle.channels.specs.Slot.{Slot, unlit, alone, shared, held}
 use Rattle.channels.specs.Channels.{Channels, at, slots, circuits}
 use Rattle.channels.specs.Nonsharing.{Standing, aloneFrom, nonsharing}
 use Rattle.channels.specs.Gathering.{Gathers}
-
--- an element of the array below the count is that of the list
-pub gathers-at : {A : Type 0} {most count : ℕ} {array list : List A} → Gathers most array count list
-    → (i : ℕ) (d : A) → i < count → getD array i d ≡ getD list i d
-gathers-at {array = array} h i d l = rw (← h .are) (sym (getD-take _ array i d l))
 
 -- what the numbers below n give, in order
 abbrev pub below : {A : Type 0} → (ℕ → List A) → ℕ → List A
@@ -27,8 +22,6 @@ below f (suc n) = below f n ++ f n
 below-front : {A : Type 0} (f : ℕ → List A) (n : ℕ) → below f (suc n) ≡ f 0 ++ below (λ p. f (suc p)) n
 below-front f zero = sym (append-nil (f 0))
 below-front f (suc n) = rw (below-front f n) (append-assoc (f 0) _ _)
-
--- ---- the loop
 
 -- the first count elements of an array, which has room for so many, are what the numbers below p give
 pub record Gathered {A : Type 0} (f : ℕ → List A) (room : ℕ) (array : List A) (count p : ℕ) : Type 0 where
@@ -76,8 +69,6 @@ module _ {A : Type 0} {f : ℕ → List A} {room : ℕ} where
     counted = rw (← e, ← h .so-far) (length-take-le count array (omega (arith, h .long)));
     fits = l;
   }
-
--- ---- what the places give
 
 -- the nonsharing circuit of place p, if there is one
 abbrev pub aloneAt : ℕ → Slot → List Standing

@@ -23,9 +23,7 @@ pub record Stands (m : ℕ) (t : Channels) (s : Standing) : Type 0 where
 abbrev pub Lower : Standing → Standing → Type 0
 Lower a b = a .place < b .place
 
--- ---- in a list of contents, whose places count from p
-
--- it is one of theirs
+-- a standing is one of a list of contents, whose places count from p
 abbrev In : ℕ → List Slot → Standing → Type 0
 In p u s = (p ≤ s .place) × (s .place < p + length u) × (getD u (s .place - p) unlit ≡ alone (s .circuit))
 
@@ -33,7 +31,7 @@ In p u s = (p ≤ s .place) × (s .place < p + length u) × (getD u (s .place - 
 in-next : (p : ℕ) (x : Slot) (u : List Slot) (s : Standing) → In (suc p) u s → In p (x ∷ u) s
 in-next p x u s h = let e : s .place - p ≡ suc (s .place - suc p) = omega arith in (omega arith, omega arith, rw e (h .2))
 
--- each circuit listed is one of theirs
+-- each circuit listed is one of the contents
 alone-in : (p : ℕ) (u : List Slot) → All (In p u) (aloneFrom p u)
 alone-in p [] = tt
 alone-in p (unlit ∷ u) = all-map _ _ (in-next p unlit u) (aloneFrom (suc p) u) (alone-in (suc p) u)
@@ -59,8 +57,6 @@ alone-most p [] = zero-le
 alone-most p (unlit ∷ u) = omega (arith, alone-most (suc p) u)
 alone-most p (alone a ∷ u) = omega (arith, alone-most (suc p) u)
 alone-most p (shared a b ∷ u) = omega (arith, alone-most (suc p) u)
-
--- ---- in a table
 
 -- a place with a circuit alone holds its first circuit
 alone-first : (s : Slot) → isAlone s ≡ true → s ≡ alone (firstOf s)

@@ -25,10 +25,8 @@ use Rattle.channels.proofs.Puts.{Spared, whole}
 abbrev pub ofNumber : ℕ → Circuit → ℕ
 ofNumber n c = bit (eqb (c .number) n)
 
--- ---- one place
-
 -- whether a place holds a number, by count
-pub holds-count : (n : ℕ) (s : Slot) → holds n s ≡ ltb 0 (numbered n (held s))
+holds-count : (n : ℕ) (s : Slot) → holds n s ≡ ltb 0 (numbered n (held s))
 holds-count n unlit = refl
 holds-count n (alone a) = go (eqb (a .number) n)
   where
@@ -62,8 +60,6 @@ parted n (shared a b) h = go (eqb (a .number) n) refl (eqb (b .number) n) refl
     go true e r g = record { number = rw e (eqb-true _ _ e); weighs = λ w. rw e refl }
     go false e true g = record { number = rw e (eqb-true _ _ g); weighs = λ w. rw e (omega arith) }
     go false e false g = absurd (omega (arith, bit-ne (a .number) n (eqb-false _ _ e), bit-ne (b .number) n (eqb-false _ _ g)))
-
--- ---- where a number stands
 
 -- the search for a number stops at a place that counts it
 passes : (t : Channels) (n p : ℕ) → 0 < numbered n (held (at t p)) → holds n (at t p) ≡ true
@@ -117,8 +113,6 @@ module _ (t : Channels) (numbers : distinct (λ c. c .number) (circuits t) ≡ t
       go : Dec (0 < numbered n (held (at t p))) → numbered n (held (at t p)) ≡ bit (eqb (whereIs t n) p)
       go (yes h) = omega (arith, most, bit-eq (whereIs t n) p (stands-at p l h))
       go (no h) = omega (arith, bit-ne (whereIs t n) p (other (omega arith)))
-
--- ---- which circuit it is
 
 -- circuits that no weight tells apart are one
 same-circuit : (a b : Circuit) → ((w : Circuit → ℕ) → w a ≡ w b) → a ≡ b

@@ -13,7 +13,6 @@ use mir.Val.{boolByte}
 use borrow.Author.Tests.{lt-ltb, le-ltb, ltb-true, ltb-false}
 use Rattle.basis.specs.Choice.{bit}
 use Rattle.basis.specs.Search.{firstBelow}
-use Rattle.basis.proofs.Weigh.{bit-most}
 use Rattle.channels.specs.Slot.{Slot, unlit, alone, shared, isLit, isUnlit}
 use Rattle.channels.specs.Channels.{Channels, at, litPlaces}
 use Rattle.channels.specs.Lit.{Lit, bitOf, word, countBelow, litBit, litAt, wordsOf, litOf, under, Room}

@@ -1,9 +1,9 @@
 -- 01, "The ring": a table has 128 directed wavelength places, lit or not. Assumes nothing.
-use Prim.Native.Nat.{ℕ, _<_}
-use mathlib.Core.Bool.{Bool, true, false}
+use Prim.Native.Nat.{ℕ}
+use mathlib.Core.Bool.{Bool}
 use mathlib.Core.List.{List, [], _∷_, _++_}
 use lib.Dec.{ltb}
-use lib.ListN.{length, getD, replicate}
+use lib.ListN.{getD, replicate}
 use Rattle.basis.specs.Choice.{bit}
 use Rattle.basis.specs.Count.{weigh, tally}
 use Rattle.basis.specs.Search.{firstBelow}

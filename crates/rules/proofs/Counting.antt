@@ -53,7 +53,7 @@ pub dest-node : (N : ℕ) (c : Circuit) → OnRing N c → Node N (c .destinatio
 dest-node N c h = omega arith
 
 -- every circuit of settled places is on the ring
-pub all-on : (N : ℕ) (u : List Slot) → All (Settled N) u → All (OnRing N) (allHeld u)
+all-on : (N : ℕ) (u : List Slot) → All (Settled N) u → All (OnRing N) (allHeld u)
 all-on N [] h = tt
 all-on N (unlit ∷ u) h = all-on N u (h .1)
 all-on N (alone a ∷ u) h = (h .0, all-on N u (h .1))

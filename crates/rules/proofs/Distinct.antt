@@ -57,8 +57,6 @@ told-next cs n i j h t l = record { before = step }
         go (yes e) = rw e (t .from b (omega arith) (omega arith))
         go (no z) = h .before a b (omega arith) m q
 
--- ---- what that says of the list
-
 -- a number that some position has is counted
 has-tally : (cs : List Circuit) (b k : ℕ) → b < length cs → numberAt cs b ≡ k → 0 < tally (λ c. c .number) k cs
 has-tally [] b k l e = absurd (not-suc-le-zero l)

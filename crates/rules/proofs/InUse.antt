@@ -11,26 +11,18 @@ use lib.ListN.{length, getD, take, set, replicate, getD-replicate}
 use borrow.Author.Tests.{leb-true, le-leb}
 use lib.Seq.{take-suc, getD-set-same, getD-set-other}
 use Rattle.basis.specs.Choice.{bit}
-use Rattle.basis.specs.Count.{weigh, tally}
+use Rattle.basis.specs.Count.{tally}
 use Rattle.basis.proofs.Bools.{and-left, and-right, and-both, same-test, bit-eq, bit-ne}
 use Rattle.basis.proofs.Weigh.{weigh-append}
 use Rattle.basis.proofs.Search.{every-at, at-every}
-use Rattle.basis.proofs.Sums.{sumBelow}
-use Rattle.basis.proofs.Fold.{Summed, weigh-sum}
 use Rattle.lightpath.specs.Circuit.{blankCircuit}
 use Rattle.lightpath.specs.declared.Circuit.{Circuit}
-use Rattle.channels.specs.Slot.{held}
-use Rattle.channels.specs.declared.Slot.the-variants.{Unlit as unlit}
-use Rattle.channels.specs.Channels.{Channels, at, slots, circuits}
-use Rattle.channels.proofs.Places.{slots-length, slots-at, weigh-slots}
 use Rattle.rules.specs.Ports.{sends, receives}
 use Rattle.rules.specs.Rules.{portsHold}
 use Rattle.rules.specs.Usage.{Tallied, enoughAt, enough}
 use Rattle.rules.proofs.Rules.{ports-from, from-ports}
 
--- ---- counting by node
-
--- the start of the loop
+-- the start of a loop that counts by node
 pub tallied-start : (key : Circuit → ℕ) (cs : List Circuit) → Tallied key cs 0 (replicate 256 0)
 tallied-start key cs = record {
   at = λ k l. getD-replicate {A = ℕ} 256 k 0 0 l;
@@ -62,8 +54,6 @@ tallied-next key cs n node counts h e l m z = record {
     lows : (k : ℕ) → k < 256 → Dec (k ≡ node) → getD (set counts node (getD counts node 0 + 1)) k 0 ≤ n + 1
     lows k q (yes s) = rw (s, getD-set-same counts node (getD counts node 0 + 1) 0 (omega arith)) (omega (arith, h .low node m))
     lows k q (no s) = rw (getD-set-other counts node k (getD counts node 0 + 1) 0 s) (omega (arith, h .low k q))
-
--- ---- the test on every node
 
 module _ (ks : List ℕ) (cs : List Circuit) (n : ℕ) (sent received : List ℕ) (s : Tallied (λ c. c .source) cs n sent)
     (r : Tallied (λ c. c .destination) cs n received) (long : length ks ≡ 64) where

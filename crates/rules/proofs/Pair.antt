@@ -37,9 +37,7 @@ transmitted i ms = tally (λ m. m .circuit .source) i ms
 abbrev received : ℕ → List Standing → ℕ
 received i ms = tally (λ m. m .circuit .destination) i ms
 
--- ---- "since no new adjacent session pair can be formed .. at each node i, either k_i^t = 0 or k_i^r = 0"
-
--- no later session begins where one ends or ends where it begins
+-- where no later session is adjacent to a, none begins where a ends or ends where a begins
 quiet : (a : Standing) (bs : List Standing) → All (λ p. meets p ≡ false) (pairsWith a bs)
     → (transmitted (a .circuit .destination) bs ≡ 0) × (received (a .circuit .source) bs ≡ 0)
 quiet a [] h = (refl, refl)
@@ -50,7 +48,7 @@ quiet a (b ∷ bs) h =
       omega (arith, bit-ne (b .circuit .destination) (a .circuit .source) (eqb-false _ _ (f .1))),
     )
 
--- so a node sends or receives, not both
+-- "since no new adjacent session pair can be formed .. at each node i, either k_i^t = 0 or k_i^r = 0"
 one-way : (i N : ℕ) (ms : List Standing) → All (λ m. OnRing N (m .circuit)) ms → All (λ p. meets p ≡ false) (pairsOf ms)
     → (transmitted i ms ≡ 0) ⊎ (received i ms ≡ 0)
 one-way i N [] on h = inl refl
@@ -68,9 +66,7 @@ one-way i N (m ∷ ms) on h =
     go (no s) (no d) (inl z) = inl (omega (arith, bit-ne (m .circuit .source) i s))
     go (no s) (no d) (inr z) = inr (omega (arith, bit-ne (m .circuit .destination) i d))
 
--- ---- "each pair of adjacent sessions which share a directed wavelength utilizes one transmitter/receiver pair at some node"
-
--- that node, at which the two meet
+-- "each pair of adjacent sessions which share a directed wavelength utilizes one transmitter/receiver pair at some node": that node
 abbrev junction : Circuit × Circuit → ℕ
 junction p = pick (eqb (p .0 .destination) (p .1 .source)) (p .0 .destination) (p .1 .destination)
 
@@ -99,8 +95,6 @@ split key i n (unlit ∷ u) h = split key i (suc n) u h
 split key i n (alone a ∷ u) h = omega (arith, split key i (suc n) u h)
 split key i n (shared a b ∷ u) h = omega (arith, split key i (suc n) u (h .1), within (junction (a, b)) (key a) (key b) i (h .0))
 
--- ---- what the places' contents say of the two lists
-
 -- each pair meets at a node of the ring, as above
 all-junctions : (N : ℕ) (u : List Slot) → All (Settled N) u
     → All (λ p. (OneOf (λ c. c .source) p × OneOf (λ c. c .destination) p) × Node N (junction p)) (sharing u)
@@ -123,8 +117,6 @@ all-alone N n (unlit ∷ u) h = all-alone N (suc n) u (h .1)
 all-alone N n (alone a ∷ u) h = (h .0, all-alone N (suc n) u (h .1))
 all-alone N n (shared a b ∷ u) h = all-alone N (suc n) u (h .1)
 
--- ---- "we proceed by contradiction"
-
 -- the nonsharing sessions and the new one
 abbrev pub sessions : List Slot → Standing → List Standing
 sessions u new = aloneFrom 0 u ++ new ∷ []
@@ -139,7 +131,7 @@ module _ (ks : List ℕ) (u : List Slot) (new : Standing) (full : Full ks u (new
   junctions = all-junctions (length ks) u (full .settled)
 
   module _ (none : All (λ p. meets p ≡ false) (pairsOf (sessions u new))) where
-    -- "k_i^t + k_i^r ≤ k_i − p_i"
+    -- "we proceed by contradiction": "k_i^t + k_i^r ≤ k_i − p_i"
     at-node : (j : ℕ) → j < length ks
         → transmitted (suc j) (sessions u new) + received (suc j) (sessions u new) + tally junction (suc j) (sharing u) ≤ getD ks j 0
     at-node j l = go (one-way (suc j) (length ks) (sessions u new) on-ring none)

@@ -17,8 +17,6 @@ use Rattle.channels.specs.Channels.{Channels, at, circuits}
 use Rattle.rules.specs.Ports.{limitOf, sends, receives}
 use Rattle.rules.specs.Rules.{limits, sized, ends, portsHold, shares, fits, spareZero, ringRules}
 
--- ---- the ports, from the test and back
-
 -- no node sends or receives more than its port count; node 1 has the first
 abbrev pub PortsHold : List ℕ → List Circuit → Type 0
 PortsHold ks cs = (j : ℕ) → j < length ks → (sends (suc j) cs ≤ getD ks j 0) × (receives (suc j) cs ≤ getD ks j 0)
@@ -41,8 +39,6 @@ from-ports i (k ∷ ks) cs h =
     let z = rw e at (h 0 (omega arith)) in
     and-both _ _ (and-both _ _ (le-leb _ _ (z .0)) (le-leb _ _ (z .1)))
     (from-ports (suc i) ks cs (λ j l. let f : i + suc j ≡ suc i + j = omega arith in rw f at (h (suc j) (suc-le-suc l))))
-
--- ---- the rules, from the test and back
 
 -- what the test of the ring rules says, in its order but for the two tests of each place, which are one here
 pub record Rules (N : ℕ) (ks : List ℕ) (t : Channels) : Type 0 where
