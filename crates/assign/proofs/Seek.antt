@@ -13,8 +13,9 @@ use Rattle.basis.specs.Search.{firstPlace, pairsWith, pairsOf}
 use Rattle.lightpath.specs.declared.Circuit.{Circuit}
 use Rattle.channels.specs.Channels.{Channels}
 use Rattle.channels.specs.Gathering.{Gathers}
+use Rattle.channels.specs.Nonsharing.{adjacentPair}
 use Rattle.channels.specs.declared.Standing.{Standing}
-use Rattle.assign.specs.Steps.{newcomer, candidates, adjacentPair, passed}
+use Rattle.assign.specs.Steps.{newcomer, candidates, passed}
 use Rattle.assign.specs.Pairs.{Pair, blankStanding, passedIn, firstPair, pairOf}
 
 -- the length of an array of structs, which is known of the list of what they are stored as

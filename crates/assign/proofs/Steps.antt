@@ -18,14 +18,14 @@ use Rattle.lightpath.specs.declared.Circuit.{Circuit}
 use Rattle.lightpath.proofs.Share.{can-swap, can-one}
 use Rattle.channels.specs.Slot.{isAlone}
 use Rattle.channels.specs.Channels.{Channels}
-use Rattle.channels.specs.Nonsharing.{standingAt}
+use Rattle.channels.specs.Nonsharing.{standingAt, adjacentPair}
 use Rattle.channels.specs.declared.Standing.{Standing}
 use Rattle.channels.proofs.Nonsharing.{Stands, Lower, stands-alone}
 use Rattle.rules.specs.Ports.{limitOf}
 use Rattle.rules.proofs.Rules.{Rules, limits-hold}
 use Rattle.rules.proofs.Allowable.{Allowable}
 use Rattle.assign.specs.Plan.{Plan, joining, lighting, oneMove, twoMoves, threeMoves}
-use Rattle.assign.specs.Steps.{joinPlace, unlitPlace, nowhere, newcomer, candidates, adjacentPair, foundPair, looks, standsRight, lowestAlone, xOf, rearranging, planOf}
+use Rattle.assign.specs.Steps.{joinPlace, unlitPlace, nowhere, newcomer, candidates, foundPair, looks, standsRight, lowestAlone, xOf, rearranging, planOf}
 use Rattle.assign.proofs.Five.{Good, joined, lighted, one-moved, two-moved, three-moved}
 use Rattle.assign.proofs.Searches.{join-stands, join-can, none-joins, unlit-found, lowest-passes, lowest-direction}
 use Rattle.assign.proofs.Candidates.{Candidate, found-couple}

@@ -12,6 +12,7 @@ use Rattle.basis.specs.Count.{tally}
 use Rattle.basis.specs.Search.{firstBelow}
 use Rattle.basis.proofs.Weigh.{bit-most}
 use Rattle.basis.proofs.Search.{every-at}
+use Rattle.basis.proofs.Below.{first-within, none-within}
 use Rattle.basis.proofs.Descent.{Lowest, lowest-start, lowest-next, lowest-end}
 use Rattle.lightpath.specs.declared.Circuit.{Circuit}
 use Rattle.channels.specs.Slot.{held, isUnlit, isLit, firstOf}
@@ -20,7 +21,6 @@ use Rattle.channels.specs.Channels.{Channels, at, circuits, numbered}
 use Rattle.channels.specs.Nonsharing.{standingAt}
 use Rattle.channels.specs.declared.Standing.{Standing}
 use Rattle.channels.specs.Lit.{litBit}
-use Rattle.channels.proofs.Below.{first-within, none-within}
 use Rattle.channels.proofs.Places.{is-unlit, none-there, weigh-from, weigh-unlit, weigh-most}
 use Rattle.channels.proofs.Words.{Built, built-start, built-room, built-next, built-end, unlit-words}
 use Rattle.rules.specs.Ports.{sends, receives}

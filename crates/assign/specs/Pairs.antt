@@ -8,9 +8,10 @@ use Rattle.basis.specs.Search.{firstPlace, pairsOf}
 use Rattle.lightpath.specs.Circuit.{blankCircuit}
 use Rattle.lightpath.specs.declared.Circuit.{Circuit}
 use Rattle.channels.specs.Channels.{Channels}
+use Rattle.channels.specs.Nonsharing.{adjacentPair}
 use Rattle.channels.specs.declared.Standing.{Standing}
 use Rattle.channels.specs.declared.Candidates.{Candidates}
-use Rattle.assign.specs.Steps.{nowhere, adjacentPair, foundPair, looks, standsRight, xOf}
+use Rattle.assign.specs.Steps.{nowhere, foundPair, looks, standsRight, xOf}
 pub use Rattle.assign.specs.declared.pairs.Pair.{Pair}
 
 -- all fields zero

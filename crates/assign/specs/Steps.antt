@@ -8,12 +8,12 @@ use Rattle.basis.specs.Choice.{pick}
 use Rattle.basis.specs.Search.{firstBelow, firstPlace, pairsOf}
 use Rattle.lightpath.specs.Place.{directionOf, sameDirection}
 use Rattle.lightpath.specs.declared.Direction.{Direction}
-use Rattle.lightpath.specs.Circuit.{adjacent, canShare, shareDirection}
+use Rattle.lightpath.specs.Circuit.{canShare, shareDirection}
 use Rattle.lightpath.specs.declared.Circuit.{Circuit}
 use Rattle.channels.specs.Slot.{isUnlit, isAlone, firstOf}
 use Rattle.channels.specs.declared.Slot.{Slot}
 use Rattle.channels.specs.Channels.{Channels, at}
-use Rattle.channels.specs.Nonsharing.{nonsharing, standingAt}
+use Rattle.channels.specs.Nonsharing.{nonsharing, standingAt, adjacentPair}
 use Rattle.channels.specs.declared.Standing.{Standing}
 use Rattle.assign.specs.Plan.{Plan, joining, lighting, oneMove, twoMoves, threeMoves}
 
@@ -42,15 +42,11 @@ newcomer c = record { place = nowhere; circuit = c }
 abbrev pub candidates : ℕ → Channels → Circuit → List Standing
 candidates m t c = nonsharing m t ++ newcomer c ∷ []
 
--- Take pairs by first member, then second. The search stops at the first adjacent pair.
-
-abbrev pub adjacentPair : Standing × Standing → Bool
-adjacentPair p = adjacent (p .0 .circuit) (p .1 .circuit)
-
--- how many pairs are tested before it
+-- Take pairs by first member, then second. The search stops at the first adjacent pair: how many pairs are tested before it,
 abbrev pub passed : ℕ → Channels → Circuit → ℕ
 passed m t c = firstPlace adjacentPair (pairsOf (candidates m t c))
 
+-- and that pair
 abbrev pub foundPair : ℕ → Channels → Circuit → Standing × Standing
 foundPair m t c = getD (pairsOf (candidates m t c)) (passed m t c) (newcomer c, newcomer c)
 

@@ -2,6 +2,7 @@
 pub mod Bools
 pub mod Branch
 pub mod Search
+pub mod Below
 pub mod Scan
 pub mod Descent
 pub mod Pairs

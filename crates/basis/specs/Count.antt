@@ -1,5 +1,5 @@
--- Counting over lists. Assumes nothing.
-use Prim.Native.Nat.{ℕ, _+_}
+-- Counting, over lists and over the numbers below a bound. Assumes nothing.
+use Prim.Native.Nat.{ℕ, zero, suc, _+_}
 use mathlib.Core.Bool.{Bool, true, _&&_}
 use mathlib.Core.List.{List, [], _∷_}
 use lib.Dec.{eqb}
@@ -28,3 +28,8 @@ distinct key (x ∷ xs) = eqb (tally key (key x) xs) 0 && distinct key xs
 abbrev pub All : {A : Type 0} → (A → Type 0) → List A → Type 0
 All P [] = Unit {0}
 All P (x ∷ xs) = P x × All P xs
+
+-- how many of the numbers below n pass a test
+abbrev pub countBelow : ℕ → (ℕ → Bool) → ℕ
+countBelow zero f = 0
+countBelow (suc n) f = bit (f 0) + countBelow n (λ p. f (suc p))

@@ -8,9 +8,10 @@ use lib.Dec.{eqb}
 use lib.Count.{ones, ones-step, trailingZeros}
 use borrow.Author.Tests.{eq-eqb, ne-eqb}
 use Rattle.basis.specs.Choice.{bit}
+use Rattle.basis.specs.Count.{countBelow}
 use Rattle.basis.specs.Search.{firstBelow}
 use Rattle.basis.proofs.Weigh.{bit-most}
-use Rattle.channels.specs.Lit.{bitOf, word, countBelow}
+use Rattle.channels.specs.Lit.{bitOf, word}
 
 -- the lowest bit is what is left by halving
 bit-zero : (w : ℕ) → bitOf w 0 ≡ eqb (w % 2) 1

@@ -5,6 +5,5 @@ pub mod Puts
 pub mod Numbers
 pub mod Nonsharing
 pub mod Gathering
-pub mod Below
 pub mod Bits
 pub mod Words

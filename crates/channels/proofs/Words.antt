@@ -12,11 +12,12 @@ use lib.ListN.{length}
 use mir.Val.{boolByte}
 use borrow.Author.Tests.{lt-ltb, le-ltb, ltb-true, ltb-false}
 use Rattle.basis.specs.Choice.{bit}
+use Rattle.basis.specs.Count.{countBelow}
 use Rattle.basis.specs.Search.{firstBelow}
+use Rattle.basis.proofs.Below.{count-same, first-same, count-sum, first-bound, first-sum}
 use Rattle.channels.specs.Slot.{Slot, unlit, alone, shared, isLit, isUnlit}
 use Rattle.channels.specs.Channels.{Channels, at, litPlaces}
-use Rattle.channels.specs.Lit.{Lit, bitOf, word, countBelow, litBit, litAt, wordsOf, litOf, under, Room}
-use Rattle.channels.proofs.Below.{count-same, first-same, count-sum, first-bound, first-sum}
+use Rattle.channels.specs.Lit.{Lit, bitOf, word, litBit, litAt, wordsOf, litOf, under, Room}
 use Rattle.channels.proofs.Bits.{ones-count, trailing-first, word-lt, word-bit}
 
 -- place p of the lower 64 is bit p of the low word

@@ -11,11 +11,6 @@ pub use Rattle.channels.specs.declared.Lit.{Lit}
 unfoldable pub bitOf : ℕ → ℕ → Bool
 bitOf w b = eqb (w / 2 ^ b % 2) 1
 
--- how many of the numbers below n pass a test
-abbrev pub countBelow : ℕ → (ℕ → Bool) → ℕ
-countBelow zero f = 0
-countBelow (suc n) f = bit (f 0) + countBelow n (λ p. f (suc p))
-
 -- the word whose k lowest bits are f at the k numbers from i on
 unfoldable pub word : (ℕ → Bool) → ℕ → ℕ → ℕ
 word f zero i = 0

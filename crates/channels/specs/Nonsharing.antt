@@ -1,7 +1,9 @@
 -- 01, "Opening a circuit": the nonsharing circuits by rising place. Assumes nothing.
 use Prim.Native.Nat.{ℕ, suc}
+use mathlib.Core.Bool.{Bool}
 use mathlib.Core.List.{List, [], _∷_}
 use lib.ListN.{take}
+use Rattle.lightpath.specs.Circuit.{adjacent}
 use Rattle.channels.specs.Slot.{Slot, unlit, alone, shared, firstOf}
 use Rattle.channels.specs.Channels.{Channels, at, slots}
 pub use Rattle.channels.specs.declared.Standing.{Standing}
@@ -20,3 +22,7 @@ nonsharing m t = aloneFrom 0 (take m (slots t))
 -- the first circuit of place p, with its place
 abbrev pub standingAt : Channels → ℕ → Standing
 standingAt t p = record { place = p; circuit = firstOf (at t p) }
+
+-- two of them are adjacent
+abbrev pub adjacentPair : Standing × Standing → Bool
+adjacentPair p = adjacent (p .0 .circuit) (p .1 .circuit)

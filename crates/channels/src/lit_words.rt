@@ -2,8 +2,9 @@
 
 ghost use mathlib.Core.Path.{_≡_};
 ghost use mathlib.Core.Bool.{not};
+ghost use Rattle.basis.specs.Count.{countBelow};
 ghost use Rattle.basis.specs.Search.{firstBelow};
-ghost use Rattle.channels.specs.Lit.{countBelow, litBit, under, Room, litOf};
+ghost use Rattle.channels.specs.Lit.{litBit, under, Room, litOf};
 use crate::Channel;
 use crate::Lit;
 

@@ -1,8 +1,9 @@
 -- The map by its words: what writing makes of the lit places. Assumes nothing.
 use Prim.Native.Nat.{ℕ, zero, suc, _/_, _%_}
 use mathlib.Core.List.{List, [], _∷_, _++_}
+use Rattle.basis.specs.Count.{countBelow}
 use Rattle.channels.specs.declared.Lit.{Lit}
-use Rattle.channels.specs.Lit.{countBelow, litBit}
+use Rattle.channels.specs.Lit.{litBit}
 
 -- the k lowest bytes of w, lowest first
 unfoldable pub lowFirst : ℕ → ℕ → List ℕ

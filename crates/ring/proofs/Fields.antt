@@ -1,5 +1,5 @@
 -- The port fields of a list of port counts: filled one by one, and judged as the list is. Assumes nothing.
-use Prim.Native.Nat.{ℕ, zero, suc, _+_, _-_, _≤_, _<_, zero-le}
+use Prim.Native.Nat.{ℕ, suc, _+_, _-_, _≤_, _<_}
 use mathlib.Core.Path.{_≡_, refl, _∙_}
 use mathlib.Core.Bool.{true, false, not}
 use mathlib.Core.List.{List, [], _∷_, _++_, append-assoc}
@@ -11,7 +11,7 @@ use lib.Seq.{take-suc, take-all, length-take-le}
 use borrow.Author.Tests.{lt-leb, le-leb}
 use Rattle.basis.specs.Count.{total}
 use Rattle.basis.proofs.Sums.{total-append, total-zeros}
-use Rattle.rules.specs.Ports.{eachAtMost}
+use Rattle.rules.proofs.Fresh.{each-zeros}
 use Rattle.ring.specs.Refusal.{judged}
 use Rattle.ring.specs.Making.{portCauses}
 
@@ -50,17 +50,11 @@ filled-end ks i fields h l m = let e : i ≡ length ks = omega arith in (rw e at
 -- for `search (needs, filled)`
 pub ruleset filled = (filled-start, filled-next, filled-end)
 
--- zeros are within any limit
-each-append : (m : ℕ) (xs : List ℕ) (n : ℕ) → eachAtMost m (xs ++ replicate n 0) ≡ eachAtMost m xs
-each-append m [] zero = refl
-each-append m [] (suc n) = rw (le-leb 0 m zero-le) (each-append m [] n)
-each-append m (x ∷ xs) n = rw (each-append m xs n)
-
--- so zeros behind the counts change no verdict
+-- zeros behind the counts change no verdict
 pub fields-judged : (ks : List ℕ) (n : ℕ) → judged (portCauses (ks ++ replicate n 0)) ≡ judged (portCauses ks)
 fields-judged ks n =
     let e : total (ks ++ replicate n 0) ≡ total ks = omega (arith, total-append ks (replicate n 0), total-zeros n) in
-    rw (each-append 64 ks n, e)
+    rw (each-zeros 64 ks n, e)
 
 -- a sum that a call gave is above a limit, or within it
 pub above : (r s m : ℕ) → r ≡ s → m < r → not (leb s m) ≡ true

@@ -4,12 +4,11 @@ use mathlib.Core.Path.{_≡_, refl, ap, _∙_}
 use mathlib.Core.Bool.{true}
 use mathlib.Core.List.{List, [], _∷_, _++_}
 use native.Mathlib.Omega.{arith}
-use lib.Dec.{leb}
 use lib.ListN.{length, drop, replicate, length-append, length-replicate, getD-replicate}
 use lib.Seq.{drop-at}
 use borrow.Author.Tests.{eq-eqb, le-leb}
 use Rattle.basis.specs.Count.{total}
-use Rattle.basis.proofs.Bools.{and-left, and-right, and-both}
+use Rattle.basis.proofs.Bools.{and-both}
 use Rattle.basis.proofs.Sums.{total-append, total-zeros}
 use Rattle.channels.specs.declared.Slot.the-variants.{Unlit as unlit}
 use Rattle.channels.specs.Channels.{unlitChannel, unlitChannels, at}
@@ -17,15 +16,10 @@ use Rattle.rules.specs.Ports.{eachAtMost}
 use Rattle.rules.proofs.Rules.{Rules}
 
 -- zeros after the port counts are within every bound
-each-zeros : (m n : ℕ) → eachAtMost m (replicate n 0) ≡ true
-each-zeros m zero = refl
-each-zeros m (suc n) = and-both _ _ (le-leb 0 m zero-le) (each-zeros m n)
-
--- with them the counts are within it still
-each-append : (m : ℕ) (ks ls : List ℕ) → eachAtMost m ks ≡ true → eachAtMost m ls ≡ true → eachAtMost m (ks ++ ls) ≡ true
-each-append m [] ls h k = k
-each-append m (x ∷ ks) ls h k =
-    and-both (leb x m) _ (and-left (leb x m) (eachAtMost m ks) h) (each-append m ks ls (and-right (leb x m) (eachAtMost m ks) h) k)
+pub each-zeros : (m : ℕ) (ks : List ℕ) (n : ℕ) → eachAtMost m (ks ++ replicate n 0) ≡ eachAtMost m ks
+each-zeros m [] zero = refl
+each-zeros m [] (suc n) = rw (le-leb 0 m zero-le) (each-zeros m [] n)
+each-zeros m (k ∷ ks) n = rw (each-zeros m ks n)
 
 -- no place is lit
 blank-unlit : (p : ℕ) → p < 128 → at unlitChannels p ≡ unlit
@@ -36,7 +30,7 @@ pub fresh-rules : (N : ℕ) (ks : List ℕ) → 3 ≤ N → N ≤ 64 → length 
     → Rules N (ks ++ replicate (64 - length ks) 0) unlitChannels
 fresh-rules N ks three most long each sum = record {
   bounds =
-      and-both _ _ (and-both _ _ (and-both _ _ (le-leb 3 N three) (le-leb N 64 most)) (each-append 64 ks zeros each (each-zeros 64 (64 - length ks))))
+      and-both _ _ (and-both _ _ (and-both _ _ (le-leb 3 N three) (le-leb N 64 most)) (each-zeros 64 ks (64 - length ks) ∙ each))
       (le-leb (total (ks ++ zeros)) 192 (omega (arith, total-append ks zeros, total-zeros (64 - length ks))));
   sizes = and-both _ _ (eq-eqb (length (ks ++ zeros)) 64 (omega (arith, length-append ks zeros, length-replicate {A = ℕ} (64 - length ks) 0))) refl;
   unused = λ p l k. rw (blank-unlit p l);

@@ -23,12 +23,8 @@ use Rattle.channels.specs.declared.Slot.{Slot}
 use Rattle.channels.specs.declared.Slot.the-variants.{Unlit as unlit, Alone as alone, Shared as shared}
 use Rattle.channels.specs.declared.Standing.{Standing}
 use Rattle.channels.specs.Channels.{allHeld}
-use Rattle.channels.specs.Nonsharing.{aloneFrom}
+use Rattle.channels.specs.Nonsharing.{aloneFrom, adjacentPair}
 use Rattle.rules.proofs.Counting.{sharing, Settled, Full, Node, source-node, dest-node, lit-count, few-share}
-
--- a pair of sessions is adjacent
-abbrev pub meets : Standing × Standing → Bool
-meets p = adjacent (p .0 .circuit) (p .1 .circuit)
 
 -- how many of some sessions a node transmits, and how many it receives: the paper's k_i^t and k_i^r
 abbrev transmitted : ℕ → List Standing → ℕ
@@ -38,7 +34,7 @@ abbrev received : ℕ → List Standing → ℕ
 received i ms = tally (λ m. m .circuit .destination) i ms
 
 -- where no later session is adjacent to a, none begins where a ends or ends where a begins
-quiet : (a : Standing) (bs : List Standing) → All (λ p. meets p ≡ false) (pairsWith a bs)
+quiet : (a : Standing) (bs : List Standing) → All (λ p. adjacentPair p ≡ false) (pairsWith a bs)
     → (transmitted (a .circuit .destination) bs ≡ 0) × (received (a .circuit .source) bs ≡ 0)
 quiet a [] h = (refl, refl)
 quiet a (b ∷ bs) h =
@@ -49,7 +45,7 @@ quiet a (b ∷ bs) h =
     )
 
 -- "since no new adjacent session pair can be formed .. at each node i, either k_i^t = 0 or k_i^r = 0"
-one-way : (i N : ℕ) (ms : List Standing) → All (λ m. OnRing N (m .circuit)) ms → All (λ p. meets p ≡ false) (pairsOf ms)
+one-way : (i N : ℕ) (ms : List Standing) → All (λ m. OnRing N (m .circuit)) ms → All (λ p. adjacentPair p ≡ false) (pairsOf ms)
     → (transmitted i ms ≡ 0) ⊎ (received i ms ≡ 0)
 one-way i N [] on h = inl refl
 one-way i N (m ∷ ms) on h =
@@ -95,7 +91,7 @@ split key i n (unlit ∷ u) h = split key i (suc n) u h
 split key i n (alone a ∷ u) h = omega (arith, split key i (suc n) u h)
 split key i n (shared a b ∷ u) h = omega (arith, split key i (suc n) u (h .1), within (junction (a, b)) (key a) (key b) i (h .0))
 
--- each pair meets at a node of the ring, as above
+-- each pair adjacentPair at a node of the ring, as above
 all-junctions : (N : ℕ) (u : List Slot) → All (Settled N) u
     → All (λ p. (OneOf (λ c. c .source) p × OneOf (λ c. c .destination) p) × Node N (junction p)) (sharing u)
 all-junctions N [] h = tt
@@ -117,7 +113,7 @@ all-alone N n (unlit ∷ u) h = all-alone N (suc n) u (h .1)
 all-alone N n (alone a ∷ u) h = (h .0, all-alone N (suc n) u (h .1))
 all-alone N n (shared a b ∷ u) h = all-alone N (suc n) u (h .1)
 
--- the nonsharing sessions and the new one
+-- the nonsharing sessions of some places and the new one: of the usable places, the candidates of step 3
 abbrev pub sessions : List Slot → Standing → List Standing
 sessions u new = aloneFrom 0 u ++ new ∷ []
 
@@ -130,7 +126,7 @@ module _ (ks : List ℕ) (u : List Slot) (new : Standing) (full : Full ks u (new
   junctions : All (λ p. (OneOf (λ c. c .source) p × OneOf (λ c. c .destination) p) × Node (length ks) (junction p)) (sharing u)
   junctions = all-junctions (length ks) u (full .settled)
 
-  module _ (none : All (λ p. meets p ≡ false) (pairsOf (sessions u new))) where
+  module _ (none : All (λ p. adjacentPair p ≡ false) (pairsOf (sessions u new))) where
     -- "we proceed by contradiction": "k_i^t + k_i^r ≤ k_i − p_i"
     at-node : (j : ℕ) → j < length ks
         → transmitted (suc j) (sessions u new) + received (suc j) (sessions u new) + tally junction (suc j) (sharing u) ≤ getD ks j 0
@@ -170,16 +166,16 @@ module _ (ks : List ℕ) (u : List Slot) (new : Standing) (full : Full ks u (new
         )
 
   -- "which contradicts the above established fact": the search for an adjacent pair finds one
-  pub pair-exists : firstPlace meets (pairsOf (sessions u new)) < length (pairsOf (sessions u new))
-  pair-exists = go (decLt (firstPlace meets (pairsOf (sessions u new))) (length (pairsOf (sessions u new))))
+  pub pair-exists : firstPlace adjacentPair (pairsOf (sessions u new)) < length (pairsOf (sessions u new))
+  pair-exists = go (decLt (firstPlace adjacentPair (pairsOf (sessions u new))) (length (pairsOf (sessions u new))))
     where
-      go : Dec (firstPlace meets (pairsOf (sessions u new)) < length (pairsOf (sessions u new)))
-          → firstPlace meets (pairsOf (sessions u new)) < length (pairsOf (sessions u new))
+      go : Dec (firstPlace adjacentPair (pairsOf (sessions u new)) < length (pairsOf (sessions u new)))
+          → firstPlace adjacentPair (pairsOf (sessions u new)) < length (pairsOf (sessions u new))
       go (yes l) = l
       go (no h) =
           absurd (omega (
             arith,
-            by-nodes-all (none-passes meets (pairsOf (sessions u new)) h),
+            by-nodes-all (none-passes adjacentPair (pairsOf (sessions u new)) h),
             lit-count 0 u (full .lit),
             full .usable,
             few-share ks u (new .circuit) full,

@@ -4,9 +4,9 @@ use mathlib.Core.Path.{_≡_, refl, sym, ap, _∙_}
 use mathlib.Core.Bool.{Bool, true, false}
 use native.Mathlib.Nat.{zero-add, suc-add, add-assoc, le-of-suc-le-suc}
 use native.Mathlib.Omega.{arith}
+use Rattle.basis.specs.Count.{countBelow}
 use Rattle.basis.specs.Search.{firstBelow}
 use Rattle.basis.proofs.Search.{first-passes, before-fails, first-only, first-end}
-use Rattle.channels.specs.Lit.{countBelow}
 
 -- tests that agree below n count and find the same
 pub count-same : (n : ℕ) (f g : ℕ → Bool) → ((p : ℕ) → p < n → f p ≡ g p) → countBelow n f ≡ countBelow n g
