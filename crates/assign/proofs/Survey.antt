@@ -28,6 +28,7 @@ use Rattle.rules.specs.Rules.{unlitFrom}
 use Rattle.assign.specs.Plan.{joining, lighting}
 use Rattle.assign.specs.Steps.{canJoin, joinPlace, unlitPlace, rearranging, planOf}
 use Rattle.assign.specs.Pairs.{Pair, pairOf}
+use Rattle.assign.specs.Assigned.{Planned, plannedOf}
 use Rattle.assign.specs.Survey.{Survey, surveyOf, seenWith, Takes}
 
 -- a key counts each circuit once
@@ -126,8 +127,11 @@ module _ (N m : ℕ) (t : Channels) (c : Circuit) (v : Survey) (e : v ≡ survey
   pub seen-join : v .join .place ≡ joinPlace N m t c
   seen-join = ap (λ (s : Survey). s .join .place) e
 
-  pub plan-joins : v .join .place < m → joining c (v .join) ≡ planOf N m t c
-  plan-joins l = rw (e, lt-ltb (joinPlace N m t c) m (rw e at l))
+  pub plan-joins : v .join .place < m → (r : Planned) → r ≡ plannedOf (joining c (v .join)) → r ≡ plannedOf (planOf N m t c)
+  plan-joins l r d = d ∙ ap plannedOf joins
+    where
+      joins : joining c (v .join) ≡ planOf N m t c
+      joins = rw (e, lt-ltb (joinPlace N m t c) m (rw e at l))
 
   -- step 2's
   module _ (u : ℕ) (w : u ≡ firstBelow 128 (λ p. not (litBit (v .lit) p))) where
@@ -140,13 +144,18 @@ module _ (N m : ℕ) (t : Channels) (c : Circuit) (v : Survey) (e : v ≡ survey
     pub seen-none : m ≤ u → m ≡ unlitPlace N m t c
     seen-none h = none-within m 128 (λ p. isUnlit (at t p)) u lowest h
 
-    pub plan-lights : m ≤ v .join .place → m ≤ 128 → u < m → lighting c u ≡ planOf N m t c
-    plan-lights j l h =
-        let s = seen-unlit l h in
-        rw (le-ltb (joinPlace N m t c) m (rw seen-join at j), s, lt-ltb (unlitPlace N m t c) m (rw s at h))
+    pub plan-lights : m ≤ v .join .place → m ≤ 128 → u < m → (r : Planned) → r ≡ plannedOf (lighting c u) → r ≡ plannedOf (planOf N m t c)
+    plan-lights j l h r d = d ∙ ap plannedOf lights
+      where
+        lights : lighting c u ≡ planOf N m t c
+        lights =
+            let s = seen-unlit l h in
+            rw (le-ltb (joinPlace N m t c) m (rw seen-join at j), s, lt-ltb (unlitPlace N m t c) m (rw s at h))
 
     -- step 3's pair
     pub plan-moves : m ≤ v .join .place → m ≤ u → (p : Pair) → p ≡ pairOf m t c
-        → rearranging N m t c (p .first) (p .second) (p .looks) ≡ planOf N m t c
-    plan-moves j h p s =
-        rw (le-ltb (joinPlace N m t c) m (rw seen-join at j), le-ltb (unlitPlace N m t c) m (omega (arith, seen-none h)), s)
+        → (r : Planned) → r ≡ plannedOf (rearranging N m t c (p .first) (p .second) (p .looks)) → r ≡ plannedOf (planOf N m t c)
+    plan-moves j h p s r d = d ∙ ap plannedOf moves
+      where
+        moves : rearranging N m t c (p .first) (p .second) (p .looks) ≡ planOf N m t c
+        moves = rw (le-ltb (joinPlace N m t c) m (rw seen-join at j), le-ltb (unlitPlace N m t c) m (omega (arith, seen-none h)), s)

@@ -1,7 +1,6 @@
 -- `assign::plan_for` meets its contract. Assumes nothing.
-use mathlib.Core.Path.{_≡_, ap, _∙_}
+use mathlib.Core.Path.{_≡_}
 use lib.ListN.{length}
-use Rattle.assign.specs.Assigned.{plannedOf}
 use Rattle.assign.proofs.Candidates.{movable}
 use Rattle.assign.proofs.Seek.{array-length}
 use Rattle.assign.proofs.Survey.{seen-join, seen-none, plan-joins, plan-lights, plan-moves}
@@ -16,9 +15,10 @@ joined-requires c κs = search needs
 returns : tie.Need-returns
 returns c =
     let start = c .before .before .before .before in
-    let x = start .args in
-    let planned = plan-joins (x .nodes) (x .limit) (x .channels) (x .circuit) (x .seen) (start .pre .1) (c .before .if1 .taken) in
-    (c .joined .ensures .0 ∙ ap plannedOf planned, c .joined .ensures .1)
+    let x = start .args in (
+      plan-joins (x .nodes) (x .limit) (x .channels) (x .circuit) (x .seen) (start .pre .1) (c .before .if1 .taken) _ (c .joined .ensures .0),
+      c .joined .ensures .1,
+    )
 
 lowest-unlit-requires : tie.Need-lowest-unlit-requires
 lowest-unlit-requires c κs = search needs
@@ -33,11 +33,11 @@ returns-2 : tie.Need-returns-2
 returns-2 c =
     let unlit = c .before .before in
     let start = unlit .before .before .before .before in
-    let x = start .args in
-    let planned =
-    plan-lights (x .nodes) (x .limit) (x .channels) (x .circuit) (x .seen) (start .pre .1) _ (unlit .lowest-unlit .ensures)
-    (unlit .before .if1 .left) (start .pre .0 .low) (c .before .if2 .taken) in
-    (c .lighted .ensures .0 ∙ ap plannedOf planned, c .lighted .ensures .1)
+    let x = start .args in (
+      plan-lights (x .nodes) (x .limit) (x .channels) (x .circuit) (x .seen) (start .pre .1) _ (unlit .lowest-unlit .ensures)
+          (unlit .before .if1 .left) (start .pre .0 .low) (c .before .if2 .taken) _ (c .lighted .ensures .0),
+      c .lighted .ensures .1,
+    )
 
 found-pair-requires : tie.Need-found-pair-requires
 found-pair-requires c κs =
@@ -65,11 +65,11 @@ returns-3 : tie.Need-returns-3
 returns-3 c =
     let unlit = c .before .before .before in
     let start = unlit .before .before .before .before in
-    let x = start .args in
-    let planned =
-    plan-moves (x .nodes) (x .limit) (x .channels) (x .circuit) (x .seen) (start .pre .1) _ (unlit .lowest-unlit .ensures)
-    (unlit .before .if1 .left) (c .before .before .if2 .left) _ (c .before .found-pair .ensures) in
-    (c .rearranged .ensures .0 ∙ ap plannedOf planned, c .rearranged .ensures .1)
+    let x = start .args in (
+      plan-moves (x .nodes) (x .limit) (x .channels) (x .circuit) (x .seen) (start .pre .1) _ (unlit .lowest-unlit .ensures)
+          (unlit .before .if1 .left) (c .before .before .if2 .left) _ (c .before .found-pair .ensures) _ (c .rearranged .ensures .0),
+      c .rearranged .ensures .1,
+    )
 
 pub plan-for-spec : {M : Type 1} → statement M
 plan-for-spec =
