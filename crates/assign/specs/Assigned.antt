@@ -9,8 +9,7 @@ use Rattle.channels.specs.Channels.{Channels}
 use Rattle.channels.specs.declared.Slot.the-variants.{Unlit as unlit}
 use Rattle.channels.specs.declared.Change.{Change}
 use Rattle.channels.specs.declared.Changes.{Changes}
-use Rattle.channels.specs.Change.{_gets_, puts}
-use Rattle.channels.specs.Change.{one as first, two as second, three as third}
+use Rattle.channels.specs.Change.{_gets_, puts, oneChange, twoChanges, threeChanges}
 use Rattle.moves.specs.Records.{none, one, two, three}
 use Rattle.moves.specs.declared.Move.{Move}
 use Rattle.moves.specs.declared.Moves.{Moves}
@@ -28,10 +27,10 @@ movesOf (a ∷ b ∷ c ∷ l) = three a b c
 
 -- a list of up to three changes, by value; a plan has at least one
 abbrev pub changesOf : List Change → Changes
-changesOf [] = first (0 gets unlit)
-changesOf (a ∷ []) = first a
-changesOf (a ∷ b ∷ []) = second a b
-changesOf (a ∷ b ∷ c ∷ l) = third a b c
+changesOf [] = oneChange (0 gets unlit)
+changesOf (a ∷ []) = oneChange a
+changesOf (a ∷ b ∷ []) = twoChanges a b
+changesOf (a ∷ b ∷ c ∷ l) = threeChanges a b c
 
 -- a plan by value
 abbrev pub plannedOf : Plan → Planned

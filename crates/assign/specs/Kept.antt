@@ -13,7 +13,7 @@ use Rattle.moves.specs.declared.Move.{Move}
 use Rattle.rules.specs.Ports.{limitOf}
 use Rattle.rules.specs.Rules.{ringRules, carried}
 
--- a circuit of the first table has moved when its place in the second is another
+-- a circuit of the first table has moved when its place in the second is another; one that is closed has none there and has not moved
 abbrev pub moved : Channels → Channels → Circuit → Bool
 moved t t′ x = ltb (whereIs t′ (x .number)) 128 && not (eqb (whereIs t (x .number)) (whereIs t′ (x .number)))
 

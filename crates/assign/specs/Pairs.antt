@@ -19,8 +19,8 @@ abbrev pub blankStanding : Standing
 blankStanding = record { place = 0; circuit = blankCircuit }
 
 -- the list that an array of candidates holds
-abbrev pub listed : Candidates → List Standing
-listed all = take (all .count) (all .list)
+abbrev pub candidateList : Candidates → List Standing
+candidateList all = take (all .count) (all .list)
 
 -- how many pairs of a list are tested before the first adjacent one
 abbrev pub passedIn : List Standing → ℕ

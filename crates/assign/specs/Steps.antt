@@ -26,7 +26,7 @@ canJoin N c p s = isAlone s && canShare N (directionOf p) (firstOf s) c
 abbrev pub joinPlace : ℕ → ℕ → Channels → Circuit → ℕ
 joinPlace N m t c = firstBelow m (λ p. canJoin N c p (at t p))
 
--- Step 2. Otherwise it takes the lowest unlit place below 2 × W.
+-- Step 2. Otherwise it takes the lowest unlit place below 2 × W. This rule does not ask for N and c; document 02's request E6 does.
 
 abbrev pub unlitPlace : ℕ → ℕ → Channels → Circuit → ℕ
 unlitPlace N m t c = firstBelow m (λ p. isUnlit (at t p))

@@ -1,4 +1,5 @@
--- What the places of a table say to a new circuit. Assumes nothing.
+-- What one pass over the places finds for a new circuit: what its number and its ports are tested by, and what steps 1 and 2 look for.
+-- Assumes nothing.
 use Prim.Native.Nat.{ℕ, _+_, _≤_}
 use Rattle.basis.specs.Choice.{pick}
 use Rattle.lightpath.specs.declared.Circuit.{Circuit}
@@ -21,7 +22,7 @@ surveyOf N m t c = record {
   lit = litOf t;
 }
 
--- what was seen of the places above p, and of p with the content s
+-- what was seen of the places above p, with place p, which has the content s
 abbrev pub seenWith : ℕ → Circuit → ℕ → Slot → Survey → Survey
 seenWith N c p s v = record {
   numbered = v .numbered + numbered (c .number) (held s);
@@ -31,7 +32,7 @@ seenWith N c p s v = record {
   lit = under (v .lit) p (isLit s);
 }
 
--- there is room for it
+-- the counts and the words have room for place p
 pub record Takes (v : Survey) (p : ℕ) : Type 0 where
   pub numbered : v .numbered ≤ 254
   pub sent : v .sent ≤ 254

@@ -6,7 +6,7 @@ ghost use lib.ListN.{length};
 ghost use Rattle.basis.specs.Search.{pairsOf};
 ghost use Rattle.channels.specs.Gathering.{Gathers};
 ghost use Rattle.assign.specs.Steps.{candidates, passed};
-ghost use Rattle.assign.specs.Pairs.{listed, passedIn, firstPair, pairOf};
+ghost use Rattle.assign.specs.Pairs.{candidateList, passedIn, firstPair, pairOf};
 use channels::Candidates;
 use channels::Channel;
 use channels::Standing;
@@ -21,7 +21,7 @@ pub struct Pair {
 }
 
 // The nonsharing circuits by rising place, the new one last. It has no place yet and is listed at 128, nowhere.
-pub fn candidates_for(limit: usize, channels: [Channel; 128], circuit: Circuit) -> Candidates
+fn candidates_for(limit: usize, channels: [Channel; 128], circuit: Circuit) -> Candidates
     requires { ⌜ limit ≤ 128 ⌝ }
     ensures { λ r. ⌜ Gathers 129 (r .list) (r .count) (candidates limit channels circuit) ⌝ }
 {
@@ -36,9 +36,9 @@ pub fn candidates_for(limit: usize, channels: [Channel; 128], circuit: Circuit) 
 }
 
 // The first adjacent pair of the candidates, where there is one: pairs by first member, then second.
-pub fn first_pair(all: Candidates) -> Pair
-    requires { ⌜ (all .count ≤ 129) × (passedIn (listed all) < length (pairsOf (listed all))) ⌝ }
-    ensures { λ r. ⌜ r ≡ firstPair (listed all) ⌝ }
+fn first_pair(all: Candidates) -> Pair
+    requires { ⌜ (all .count ≤ 129) × (passedIn (candidateList all) < length (pairsOf (candidateList all))) ⌝ }
+    ensures { λ r. ⌜ r ≡ firstPair (candidateList all) ⌝ }
 {
     let count = all.count;
     let mut first = all.list[0];

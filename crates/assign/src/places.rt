@@ -25,7 +25,7 @@ pub fn can_join(nodes: u8, circuit: Circuit, place: usize, slot: Slot) -> bool
 }
 
 // Whether a place is of a direction and holds a nonsharing circuit.
-pub fn alone_in(direction: Direction, place: usize, slot: Slot) -> bool
+fn alone_in(direction: Direction, place: usize, slot: Slot) -> bool
     requires { ⌜ place < 128 ⌝ }
     ensures { λ r. ⌜ r ≡ (isAlone slot && sameDirection (directionOf place) direction) ⌝ }
 {

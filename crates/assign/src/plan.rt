@@ -23,7 +23,7 @@ pub struct Planned {
 }
 
 // The record of a move: number, old place, new place.
-pub fn moves_to(standing: Standing, place: usize) -> Move
+fn moves_to(standing: Standing, place: usize) -> Move
     requires { ⌜ (standing .place < 128) × (place < 128) ⌝ }
     ensures { λ r. ⌜ r ≡ movesTo standing place ⌝ }
 {

@@ -18,7 +18,7 @@ use lightpath::Circuit;
 use lightpath::Place;
 
 // Whether x stands in a direction in which the pair a and b can share.
-pub fn stands_right(nodes: u8, a: Standing, b: Standing, x: Standing) -> bool
+fn stands_right(nodes: u8, a: Standing, b: Standing, x: Standing) -> bool
     requires { ⌜ 0 < nodes ⌝ }
     ensures { λ r. ⌜ r ≡ standsRight nodes a b x ⌝ }
 {
@@ -30,7 +30,7 @@ pub fn stands_right(nodes: u8, a: Standing, b: Standing, x: Standing) -> bool
 }
 
 // Step 3b: x, the nonsharing circuit at the lowest place of the direction in which a and b can share.
-pub fn x_of(nodes: u8, limit: usize, channels: [Channel; 128], a: Standing, b: Standing) -> Standing
+fn x_of(nodes: u8, limit: usize, channels: [Channel; 128], a: Standing, b: Standing) -> Standing
     requires { ⌜ (0 < nodes) × (limit ≤ 128) × (xOf nodes limit channels a b .place < limit) ⌝ }
     ensures { λ r. ⌜ r ≡ xOf nodes limit channels a b ⌝ }
 {
@@ -45,7 +45,7 @@ pub fn x_of(nodes: u8, limit: usize, channels: [Channel; 128], a: Standing, b: S
 }
 
 // Step 3b: x moves to a's place, a and an old b to x's. The new circuit joins a there, or takes b's old place.
-pub fn exchanged(circuit: Circuit, x: Standing, pair: Pair) -> Planned
+fn exchanged(circuit: Circuit, x: Standing, pair: Pair) -> Planned
     requires { ⌜ (x .place < 128) × (pair .first .place < 128) ⌝ }
     ensures { λ r. ⌜ (r ≡ plannedOf (exchanging circuit x (pair .first) (pair .second) (pair .looks))) × Placed (r .changes) ⌝ }
 {

@@ -26,7 +26,7 @@ pub struct Survey {
     pub lit: Lit,
 }
 
-// The circuit of a place where the new one can join it, or else the one found above.
+// The circuit of a place where the new one can join it, or else the one found at the places above.
 fn lower_join(nodes: u8, circuit: Circuit, place: usize, slot: Slot, above: Standing) -> Standing
     requires { ⌜ (0 < nodes) × (place < 128) ⌝ }
     ensures { λ r. ⌜ r ≡ pick (canJoin nodes circuit place slot) (record { place = place; circuit = firstOf slot }) above ⌝ }
@@ -41,7 +41,7 @@ fn lower_join(nodes: u8, circuit: Circuit, place: usize, slot: Slot, above: Stan
 }
 
 impl Survey {
-    // What was seen of the places above one, and of that one.
+    // What was seen of the places above one, with that one.
     fn with_place(self, nodes: u8, circuit: Circuit, place: usize, slot: Slot) -> Survey
         requires { ⌜ (0 < nodes) × (place < 128) × Takes self place ⌝ }
         ensures { λ r. ⌜ r ≡ seenWith nodes circuit place slot self ⌝ }

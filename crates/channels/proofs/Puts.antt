@@ -1,4 +1,4 @@
--- What a list of changes does to a table, whatever the changes are. Assumes nothing.
+-- What a list of changes does to a table, whatever the changes are; up to three by value do what their list does. Assumes nothing.
 use Prim.Native.Nat.{ℕ, _+_, _≤_, _<_}
 use mathlib.Core.Path.{_≡_, refl, sym, _∙_}
 use mathlib.Core.Logic.{_≢_}
@@ -12,7 +12,7 @@ use Rattle.basis.proofs.Bools.{all-map}
 use Rattle.lightpath.specs.declared.Circuit.{Circuit}
 use Rattle.channels.specs.Slot.{Slot, unlit, held}
 use Rattle.channels.specs.Channels.{Channels, at, slots, circuits}
-use Rattle.channels.specs.Change.{Change, Changes, _gets_, put, puts, one, two, three, inOrder, Placed}
+use Rattle.channels.specs.Change.{Change, Changes, _gets_, put, puts, oneChange, twoChanges, threeChanges, inOrder, Placed}
 use Rattle.channels.proofs.Places.{weigh-slots, weigh-place, weigh-nowhere, put-length, put-here, put-there, put-sum}
 
 -- no place is changed twice
@@ -152,24 +152,25 @@ module _ (w : Circuit → ℕ) (chs : List Change) (t : Channels) (apart : Apart
           (λ p l n. none p l (cleared-back (λ q. p ≢ q) chs n)) (cleared-slots (λ p s. weigh w (held s) ≡ 0) chs (λ p. refl)) p
           (rw (puts-length (cleared chs) t) at l)
 
--- up to three by value: those said again change nothing
+-- a change said again changes nothing
 again : (ch : Change) (t : Channels) → put ch (put ch t) ≡ put ch t
 again ch t = set-set t (ch .place) (record { slot = ch .slot }) (record { slot = ch .slot })
 
-pub puts-one : (a : Change) (t : Channels) → puts (inOrder (one a)) t ≡ puts (a ∷ []) t
+-- so one and two by value do what their list does
+pub puts-one : (a : Change) (t : Channels) → puts (inOrder (oneChange a)) t ≡ puts (a ∷ []) t
 puts-one a t = again a (put a t) ∙ again a t
 
-pub puts-two : (a b : Change) (t : Channels) → puts (inOrder (two a b)) t ≡ puts (a ∷ b ∷ []) t
+pub puts-two : (a b : Change) (t : Channels) → puts (inOrder (twoChanges a b)) t ≡ puts (a ∷ b ∷ []) t
 puts-two a b t = again b (put a t)
 
 -- they are of places that there are where each is
-pub placed-one : (a : Change) (r : Changes) → r ≡ one a → a .place < 128 → Placed r
+pub placed-one : (a : Change) (r : Changes) → r ≡ oneChange a → a .place < 128 → Placed r
 placed-one a r e h = rw e (record { first = h; second = h; third = h })
 
-pub placed-two : (a b : Change) (r : Changes) → r ≡ two a b → a .place < 128 → b .place < 128 → Placed r
+pub placed-two : (a b : Change) (r : Changes) → r ≡ twoChanges a b → a .place < 128 → b .place < 128 → Placed r
 placed-two a b r e h k = rw e (record { first = h; second = k; third = k })
 
-pub placed-three : (a b c : Change) (r : Changes) → r ≡ three a b c → a .place < 128 → b .place < 128 → c .place < 128 → Placed r
+pub placed-three : (a b c : Change) (r : Changes) → r ≡ threeChanges a b c → a .place < 128 → b .place < 128 → c .place < 128 → Placed r
 placed-three a b c r e h k l = rw e (record { first = h; second = k; third = l })
 
 pub ruleset placed = (placed-one, placed-two, placed-three)

@@ -1,4 +1,5 @@
--- The two words of lit places: what their ones and the trailing zeros of their complements say of a table. Assumes nothing.
+-- The two words of lit places: what their ones and the trailing zeros of their complements say of a table, and how a loop from the last
+-- place down makes them. Assumes nothing.
 use Prim.Native.Nat.{ℕ, zero, suc, _+_, _-_, _*_, _^_, _≤_, _<_}
 use mathlib.Core.Path.{_≡_, refl, sym, ap, ap₂, _∙_}
 use mathlib.Core.Bool.{Bool, true, false, not}
@@ -91,7 +92,7 @@ lit-all (ch ∷ t) = ap (λ (n : ℕ). bit (isLit (ch .slot)) + n) (lit-all t)
 pub lit-places : (t : Channels) → length t ≡ 128 → countBelow 128 (litBit (litOf t)) ≡ litPlaces t
 lit-places t e = count-same 128 (litBit (litOf t)) (litAt t) (words-say (litAt t)) ∙ ap (λ (n : ℕ). countBelow n (litAt t)) (sym e) ∙ lit-all t
 
--- the words hold the places from p on, each of its own 64
+-- the words hold the places from p on: low those below 64, high the others
 pub record Built (t : Channels) (p : ℕ) (l : Lit) : Type 0 where
   pub low-word : l .low ≡ word (litAt t) (64 - p) p
   pub high-word : l .high ≡ word (litAt t) (64 - (p - 64)) (64 + (p - 64))
@@ -107,7 +108,7 @@ unfolding word
 word-none f zero i h = refl
 word-none f (suc k) i h = simp (h i (omega arith) (omega arith), word-none f k (suc i) (λ p l m. h p (omega arith) (omega arith)))
 
--- a place joins its word under the others
+-- a place joins its word below the others
 word-next : (f : ℕ → Bool) (k n i j w : ℕ) (b : Bool) → w ≡ word f k i → n ≡ suc k → i ≡ suc j → b ≡ f j → w * 2 + bit b ≡ word f n j
 unfolding word
 word-next f k n i j w b e m s h = rw (m, h, e, s)

@@ -20,14 +20,14 @@ puts [] t = t
 puts (ch ∷ chs) t = puts chs (put ch t)
 
 -- up to three changes by value: fewer are three of which the last is said again, which changes nothing
-abbrev pub one : Change → Changes
-one a = record { first = a; second = a; third = a }
+abbrev pub oneChange : Change → Changes
+oneChange a = record { first = a; second = a; third = a }
 
-abbrev pub two : Change → Change → Changes
-two a b = record { first = a; second = b; third = b }
+abbrev pub twoChanges : Change → Change → Changes
+twoChanges a b = record { first = a; second = b; third = b }
 
-abbrev pub three : Change → Change → Change → Changes
-three a b c = record { first = a; second = b; third = c }
+abbrev pub threeChanges : Change → Change → Change → Changes
+threeChanges a b c = record { first = a; second = b; third = c }
 
 -- their list
 abbrev pub inOrder : Changes → List Change

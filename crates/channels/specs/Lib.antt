@@ -1,3 +1,4 @@
+-- What stands at the places of a table: one place, all of them, changes, the nonsharing circuits, the lit words, and a list in an array.
 pub mod Slot
 pub mod Channels
 pub mod Change

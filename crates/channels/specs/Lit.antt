@@ -32,11 +32,11 @@ wordsOf f = record { low = word f 64 0; high = word f 64 64 }
 abbrev pub litOf : Channels → Lit
 litOf t = wordsOf (litAt t)
 
--- the words with place p, under those that its word has
+-- the words with place p, which is below all that its word has: each of those goes one bit up
 abbrev pub under : Lit → ℕ → Bool → Lit
 under l p b = pick (ltb p 64) (record { low = l .low * 2 + bit b; high = l .high }) (record { low = l .low; high = l .high * 2 + bit b })
 
--- there is room for it
+-- the word of place p has room for it: its highest bit does not stand
 pub record Room (l : Lit) (p : ℕ) : Type 0 where
   pub low : p < 64 → l .low < 2 ^ 63
   pub high : 64 ≤ p → l .high < 2 ^ 63

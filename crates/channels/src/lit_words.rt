@@ -27,7 +27,7 @@ impl Lit {
         64 + u64::trailing_zeros(!self.high)
     }
 
-    // The words with one more place, under those that its word has.
+    // The words with one more place, which is below all that its word has: each of those goes one bit up.
     pub fn under(self, place: usize, lit: bool) -> Lit
         requires { ⌜ Room self place ⌝ }
         ensures { λ r. ⌜ r ≡ under self place lit ⌝ }

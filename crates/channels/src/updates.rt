@@ -1,7 +1,7 @@
-// Changes of places, by value.
+// Up to three changes of places by value, and the places after them.
 
 ghost use mathlib.Core.Path.{_≡_};
-ghost use Rattle.channels.specs.Change.{puts, inOrder, Placed, one, two, three};
+ghost use Rattle.channels.specs.Change.{puts, inOrder, Placed, oneChange, twoChanges, threeChanges};
 use crate::Change;
 use crate::Changes;
 use crate::Channel;
@@ -9,7 +9,7 @@ use crate::Channel;
 impl Changes {
     // One change.
     pub fn one(a: Change) -> Changes
-        ensures { λ r. ⌜ r ≡ one a ⌝ }
+        ensures { λ r. ⌜ r ≡ oneChange a ⌝ }
     {
         Changes {
             first: a,
@@ -20,7 +20,7 @@ impl Changes {
 
     // Two changes, in their order.
     pub fn two(a: Change, b: Change) -> Changes
-        ensures { λ r. ⌜ r ≡ two a b ⌝ }
+        ensures { λ r. ⌜ r ≡ twoChanges a b ⌝ }
     {
         Changes {
             first: a,
@@ -31,7 +31,7 @@ impl Changes {
 
     // Three changes, in their order.
     pub fn three(a: Change, b: Change, c: Change) -> Changes
-        ensures { λ r. ⌜ r ≡ three a b c ⌝ }
+        ensures { λ r. ⌜ r ≡ threeChanges a b c ⌝ }
     {
         Changes {
             first: a,
