@@ -57,11 +57,11 @@ module _ (N : ℕ) (ks : List ℕ) (t : Channels) (rules : Rules N ks t) where
   inside : (p : ℕ) → p < limitOf ks → p < length t
   inside p l = let k = limits-hold N ks t rules in omega arith
 
-  -- they are on the ring
+  -- a nonsharing circuit joins nodes of the ring
   ends : (m : Standing) → Stands (limitOf ks) t m → joins N (m .circuit) ≡ true
   ends m s = let k = limits-hold N ks t rules in alone-joins N (m .place) (m .circuit) (rw (s .there) at (rules .places (m .place) (omega arith)))
 
-  -- one fits alone at any place
+  -- so it fits alone at any place
   fits-alone : (p : ℕ) (m : Standing) → Stands (limitOf ks) t m → fits N p (alone (m .circuit)) ≡ true
   fits-alone p m s = alone-fits N p (m .circuit) (ends m s)
 

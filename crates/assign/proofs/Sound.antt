@@ -104,6 +104,7 @@ module _ (N : ℕ) (ks : List ℕ) (t : Channels) (rules : Rules N ks t) where
   pub old-place : (q : ℕ) (x : Circuit) → Has t q x → whereIs t (x .number) ≡ q
   old-place q x h = stands-at t (rules .numbers) (x .number) q (h .0) (h .1)
 
+-- where the new ones' numbers are new and their ports free, all is kept
 module _ (N : ℕ) (ks : List ℕ) (t : Channels) (gone new : List Circuit) (chs : List Change) (stay : List Standing) (go : List Shift) (rules : Rules N ks t)
     (numbers : distinct (λ c. c .number) (new ++ circuits t) ≡ true) (ports : PortsHold ks (new ++ circuits t)) (s : Sound N t gone new chs stay go)
     (above : (q : ℕ) → limitOf ks ≤ q → at (puts chs t) q ≡ at t q) where

@@ -40,6 +40,7 @@ plannedOf plan = record { changes = changesOf (plan .changes); place = record { 
 abbrev pub carriedOut : Channels → Plan → Assigned
 carriedOut t plan = record { channels = puts (plan .changes) t; place = record { 0 = plan .taken }; moves = movesOf (plan .moves); looks = plan .looks }
 
+-- the plan of the steps carried out
 unfoldable pub assignedOf : ℕ → ℕ → Channels → Circuit → Assigned
 assignedOf N m t c = carriedOut t (planOf N m t c)
 

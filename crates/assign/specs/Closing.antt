@@ -10,5 +10,6 @@ use Rattle.channels.specs.Change.{_gets_, puts}
 abbrev pub closing : Channels → ℕ → List Change
 closing t n = (whereIs t n gets without n (at t (whereIs t n))) ∷ []
 
+-- the places after it
 abbrev pub closed : Channels → ℕ → Channels
 closed t n = puts (closing t n) t

@@ -74,12 +74,14 @@ xOf N m t a b = standingAt t (lowestAlone m t (shareDirection N (a .circuit) (b 
 abbrev pub exchanging : Circuit → Standing → Standing → Standing → ℕ → Plan
 exchanging c x a b k = pick (ltb (b .place) nowhere) (threeMoves c x a b k) (twoMoves c x a k)
 
+-- step 3 with the pair a and b, found after k looks
 abbrev pub rearranging : ℕ → ℕ → Channels → Circuit → Standing → Standing → ℕ → Plan
 rearranging N m t c a b k =
     pick (standsRight N a b a) (oneMove c a b k)
     (pick (standsRight N a b b) (oneMove c b a k)
     (exchanging c (xOf N m t a b) a b k))
 
+-- the first of the steps that serves the new circuit
 abbrev pub planOf : ℕ → ℕ → Channels → Circuit → Plan
 planOf N m t c =
     pick (ltb (joinPlace N m t c) m) (joining c (standingAt t (joinPlace N m t c)))

@@ -12,9 +12,11 @@ infix 20 _gets_
 abbrev pub _gets_ : ℕ → Slot → Change
 p gets s = record { place = p; slot = s }
 
+-- the places after one change
 abbrev pub put : Change → Channels → Channels
 put ch t = set t (ch .place) (record { slot = ch .slot })
 
+-- and after several
 abbrev pub puts : List Change → Channels → Channels
 puts [] t = t
 puts (ch ∷ chs) t = puts chs (put ch t)

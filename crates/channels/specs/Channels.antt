@@ -15,6 +15,7 @@ pub use Rattle.channels.specs.declared.Channel.{Channel}
 abbrev pub Channels : Type 0
 Channels = List Channel
 
+-- a blank place
 abbrev pub unlitChannel : Channel
 unlitChannel = record { slot = unlit }
 

@@ -21,6 +21,7 @@ isLit unlit = false
 isLit (alone a) = true
 isLit (shared a b) = true
 
+-- unlit: none is
 abbrev pub isUnlit : Slot → Bool
 isUnlit unlit = true
 isUnlit (alone a) = false

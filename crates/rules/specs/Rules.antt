@@ -54,6 +54,7 @@ shares N p (shared a b) = ltb (a .number) (b .number) && canShare N (directionOf
 abbrev pub fits : ℕ → ℕ → Slot → Bool
 fits N p s = ends N s && shares N p s
 
+-- all of them
 abbrev pub ringRules : ℕ → List ℕ → Channels → Bool
 ringRules N ks t =
     limits N ks && sized ks t && unlitFrom (limitOf ks) t
