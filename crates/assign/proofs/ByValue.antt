@@ -17,15 +17,15 @@ use Rattle.channels.proofs.Puts.{puts-one, puts-two}
 use Rattle.moves.specs.Records.{listed}
 use Rattle.moves.specs.declared.Move.{Move}
 use Rattle.moves.proofs.Listed.{length-listed}
-use Rattle.rules.specs.Ports.{limitOf}
+use Rattle.ports.specs.Ports.{limitOf}
 use Rattle.rules.proofs.Rules.{Rules}
 use Rattle.rules.proofs.Allowable.{Allowable}
-use Rattle.assign.specs.Steps.{nowhere, joinPlace, unlitPlace, foundPair, looks, standsRight, xOf, exchanging, rearranging, planOf}
-use Rattle.assign.specs.Plan.{Plan, joining, lighting, oneMove, twoMoves, threeMoves}
-use Rattle.assign.specs.Assigned.{movesOf, changesOf, Planned, plannedOf, assignedOf, Ready}
-use Rattle.assign.specs.Kept.{Served}
-use Rattle.assign.proofs.Steps.{plan-good}
-use Rattle.assign.proofs.Looks.{looks-most}
+use Rattle.steps.specs.Steps.{nowhere, joinPlace, unlitPlace, foundPair, looks, standsRight, xOf, exchanging, rearranging, planOf, Ready}
+use Rattle.steps.specs.Plan.{Plan, joining, lighting, oneMove, twoMoves, threeMoves}
+use Rattle.assign.specs.Assigned.{movesOf, changesOf, Planned, plannedOf, assignedOf}
+use Rattle.steps.specs.Kept.{Served}
+use Rattle.steps.proofs.Steps.{plan-good}
+use Rattle.steps.proofs.Looks.{looks-most}
 
 -- up to three moves by value are listed again as they were
 listed-moves : (ms : List Move) → length ms ≤ 3 → listed (movesOf ms) ≡ ms

@@ -1,20 +1,20 @@
--- The answer of steps 1 to 3 by value, and what a table must offer for them. Assumes nothing.
+-- The answer of steps 1 to 3 by value, and what step 3 counts on in its pair. Assumes nothing.
 use Prim.Native.Nat.{ℕ, _≤_, _<_}
+use mathlib.Core.Path.{_≡_}
+use mathlib.Core.Bool.{true}
 use mathlib.Core.List.{List, [], _∷_}
-use lib.ListN.{length}
-use Rattle.basis.specs.Search.{pairsOf}
 use Rattle.lightpath.specs.declared.Circuit.{Circuit}
-use Rattle.lightpath.specs.declared.Direction.{Direction}
 use Rattle.channels.specs.Channels.{Channels}
-use Rattle.channels.specs.declared.Slot.the-variants.{Unlit as unlit}
+use Rattle.slots.specs.declared.Slot.the-variants.{Unlit as unlit}
 use Rattle.channels.specs.declared.Change.{Change}
 use Rattle.channels.specs.declared.Changes.{Changes}
 use Rattle.channels.specs.Change.{_gets_, puts, oneChange, twoChanges, threeChanges}
 use Rattle.moves.specs.Records.{none, one, two, three}
 use Rattle.moves.specs.declared.Move.{Move}
 use Rattle.moves.specs.declared.Moves.{Moves}
-use Rattle.assign.specs.Plan.{Plan}
-use Rattle.assign.specs.Steps.{joinPlace, unlitPlace, candidates, passed, lowestAlone, planOf}
+use Rattle.steps.specs.Plan.{Plan}
+use Rattle.steps.specs.Steps.{nowhere, standsRight, xOf, planOf}
+use Rattle.pairs.specs.declared.Pair.{Pair}
 pub use Rattle.assign.specs.declared.plan.Planned.{Planned}
 pub use Rattle.assign.specs.declared.Assigned.{Assigned}
 
@@ -44,9 +44,13 @@ carriedOut t plan = record { channels = puts (plan .changes) t; place = record {
 unfoldable pub assignedOf : ℕ → ℕ → Channels → Circuit → Assigned
 assignedOf N m t c = carriedOut t (planOf N m t c)
 
--- the paper's two claims: where neither step 1 nor step 2 finds a place, there is an adjacent pair, and a nonsharing circuit each way round
-pub record Ready (N m : ℕ) (t : Channels) (c : Circuit) : Type 0 where
+-- what step 3 counts on in the pair that it finds
+pub record Movable (N m : ℕ) (t : Channels) (p : Pair) : Type 0 where
   pub nodes : 0 < N
   pub low : m ≤ 128
-  pub pair : m ≤ joinPlace N m t c → m ≤ unlitPlace N m t c → passed m t c < length (pairsOf (candidates m t c))
-  pub lane : m ≤ joinPlace N m t c → m ≤ unlitPlace N m t c → (d : Direction) → lowestAlone m t d < m
+  -- the first is an old one
+  pub old : p .first .place < nowhere
+  -- 3a: where it stands right, both are old
+  pub both : standsRight N (p .first) (p .second) (p .first) ≡ true → p .second .place < nowhere
+  -- 3b: there is an x
+  pub lane : xOf N m t (p .first) (p .second) .place < m

@@ -4,16 +4,14 @@ ghost use mathlib.Core.Path.{_≡_};
 ghost use Prim.Native.Nat.{_<_};
 ghost use Rattle.channels.specs.Channels.{whereIs};
 ghost use Rattle.channels.specs.Change.{Placed};
-ghost use Rattle.assign.specs.Steps.{planOf};
-ghost use Rattle.assign.specs.Survey.{surveyOf};
-ghost use Rattle.assign.specs.Assigned.{Ready, plannedOf, assignedOf};
-ghost use Rattle.assign.specs.Closing.{closed};
+ghost use Rattle.steps.specs.Steps.{planOf, Ready};
+ghost use Rattle.survey.specs.Survey.{surveyOf};
+ghost use Rattle.assign.specs.Assigned.{plannedOf, assignedOf};
+ghost use Rattle.steps.specs.Closing.{closed};
 
-mod pairs;
 mod places;
 mod plan;
 mod rearrange;
-mod seen;
 
 use channels::Channel;
 use channels::changed;
@@ -25,8 +23,7 @@ use plan::Planned;
 use plan::joined;
 use plan::lighted;
 use rearrange::rearranged;
-pub use seen::Survey;
-pub use seen::survey_places;
+use survey::Survey;
 
 // The places after an opening, with the place taken, the moves and the number of pairs tested.
 pub struct Assigned {

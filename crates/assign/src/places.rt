@@ -1,28 +1,15 @@
-// What steps 1 and 3b ask of a place.
+// What step 3b asks of the places.
 
 ghost use mathlib.Core.Path.{_≡_};
 ghost use mathlib.Core.Bool.{_&&_};
 ghost use Prim.Native.Nat.{_<_, _≤_};
 ghost use Rattle.lightpath.specs.Place.{directionOf, sameDirection};
-ghost use Rattle.channels.specs.Slot.{isAlone};
-ghost use Rattle.assign.specs.Steps.{canJoin, lowestAlone};
+ghost use Rattle.slots.specs.Slot.{isAlone};
+ghost use Rattle.steps.specs.Steps.{lowestAlone};
 use channels::Channel;
-use channels::Slot;
-use lightpath::Circuit;
 use lightpath::Direction;
 use lightpath::Place;
-
-// Whether a circuit can join what a place holds.
-pub fn can_join(nodes: u8, circuit: Circuit, place: usize, slot: Slot) -> bool
-    requires { ⌜ (0 < nodes) × (place < 128) ⌝ }
-    ensures { λ r. ⌜ r ≡ canJoin nodes circuit place slot ⌝ }
-{
-    if !slot.is_alone() {
-        return false;
-    }
-    let direction = Place(place as u8).direction();
-    slot.first().can_share(circuit, nodes, direction)
-}
+use slots::Slot;
 
 // Whether a place is of a direction and holds a nonsharing circuit.
 fn alone_in(direction: Direction, place: usize, slot: Slot) -> bool

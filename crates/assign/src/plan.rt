@@ -3,16 +3,16 @@
 ghost use mathlib.Core.Path.{_≡_};
 ghost use Prim.Native.Nat.{_<_};
 ghost use Rattle.channels.specs.Change.{Placed};
-ghost use Rattle.assign.specs.Plan.{movesTo, joining, lighting, oneMove, twoMoves, threeMoves};
+ghost use Rattle.steps.specs.Plan.{movesTo, joining, lighting, oneMove, twoMoves, threeMoves};
 ghost use Rattle.assign.specs.Assigned.{plannedOf};
 use channels::Change;
 use channels::Changes;
-use channels::Slot;
 use channels::Standing;
 use lightpath::Circuit;
 use lightpath::Place;
 use moves::Move;
 use moves::Moves;
+use slots::Slot;
 
 // A plan by value.
 pub struct Planned {

@@ -2,11 +2,9 @@
 
 ghost use mathlib.Core.Path.{_≡_};
 ghost use Prim.Native.Nat.{_<_, _≤_};
-ghost use Rattle.assign.specs.Steps.{standsRight, xOf, exchanging, rearranging};
-ghost use Rattle.assign.specs.Pairs.{Movable};
+ghost use Rattle.steps.specs.Steps.{standsRight, xOf, exchanging, rearranging};
+ghost use Rattle.assign.specs.Assigned.{Movable, plannedOf};
 ghost use Rattle.channels.specs.Change.{Placed};
-ghost use Rattle.assign.specs.Assigned.{plannedOf};
-use crate::pairs::Pair;
 use crate::places::lowest_alone;
 use crate::plan::Planned;
 use crate::plan::one_move;
@@ -16,6 +14,7 @@ use channels::Channel;
 use channels::Standing;
 use lightpath::Circuit;
 use lightpath::Place;
+use pairs::Pair;
 
 // Whether x stands in a direction in which the pair a and b can share.
 fn stands_right(nodes: u8, a: Standing, b: Standing, x: Standing) -> bool

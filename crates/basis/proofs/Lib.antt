@@ -6,6 +6,7 @@ pub mod Below
 pub mod Scan
 pub mod Descent
 pub mod Pairs
+pub mod Arrays
 pub mod Weigh
 pub mod Sums
 pub mod Fold

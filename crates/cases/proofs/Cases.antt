@@ -3,7 +3,7 @@ use mathlib.Core.Path.{_≡_, refl}
 use mathlib.Core.List.{List, [], _∷_, map}
 use Rattle.basis.specs.Count.{All}
 use Rattle.lightpath.specs.Circuit.{ahead}
-use Rattle.channels.specs.Lit.{word}
+use Rattle.lit_words.specs.Lit.{word}
 use Rattle.moves.specs.Lent.{written}
 use Rattle.assign.specs.Assigned.{assignedOf}
 use Rattle.ring.specs.Making.{makeOf}

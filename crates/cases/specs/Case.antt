@@ -11,7 +11,7 @@ use Rattle.lightpath.specs.declared.Circuit.{Circuit}
 use Rattle.lightpath.specs.Circuit.{hops, adjacent, canShare}
 use Rattle.moves.specs.declared.Move.{Move}
 use Rattle.moves.specs.Lent.{blanks}
-use Rattle.rules.specs.Ports.{wavelengths}
+use Rattle.ports.specs.Ports.{wavelengths}
 use Rattle.ring.specs.declared.RingTable.{RingTable}
 use Rattle.ring.specs.Making.{makeOf}
 use Rattle.ring.specs.Opening.{openOf, lentAfter}

@@ -4,8 +4,8 @@ use mathlib.Core.List.{List, [], _∷_, _++_, map}
 use lib.ListN.{length, replicate}
 use Rattle.lightpath.specs.declared.Direction.the-variants.{Clockwise as clockwise, Counterclockwise as counterclockwise}
 use Rattle.lightpath.specs.declared.Circuit.{Circuit}
-use Rattle.channels.specs.declared.Slot.{Slot}
-use Rattle.channels.specs.declared.Slot.the-variants.{Alone as alone, Shared as shared}
+use Rattle.slots.specs.declared.Slot.{Slot}
+use Rattle.slots.specs.declared.Slot.the-variants.{Alone as alone, Shared as shared}
 use Rattle.channels.specs.Channels.{unlitChannel}
 use Rattle.moves.specs.declared.Move.{Move}
 use Rattle.moves.specs.Lent.{blanks}

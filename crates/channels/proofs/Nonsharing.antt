@@ -9,7 +9,9 @@ use lib.Seq.{length-take-le, getD-take}
 use Rattle.basis.specs.Count.{All}
 use Rattle.basis.proofs.Bools.{all-join, all-map}
 use Rattle.basis.proofs.Pairs.{Ordered}
-use Rattle.channels.specs.Slot.{Slot, unlit, alone, shared, isAlone, firstOf}
+use Rattle.slots.specs.Slot.{isAlone, firstOf}
+use Rattle.slots.specs.declared.Slot.{Slot}
+use Rattle.slots.specs.declared.Slot.the-variants.{Unlit as unlit, Alone as alone, Shared as shared}
 use Rattle.channels.specs.Channels.{Channels, at, slots}
 use Rattle.channels.specs.Nonsharing.{Standing, aloneFrom, nonsharing, standingAt}
 use Rattle.channels.proofs.Places.{slots-length, slots-at}

@@ -15,7 +15,9 @@ use Rattle.basis.proofs.Bools.{bit-eq, bit-ne, all-map, all-and, all-each}
 use Rattle.basis.proofs.Search.{first-passes, none-passes-below, first-only, first-end}
 use Rattle.basis.proofs.Weigh.{distinct-most, most-distinct, counted, keyed, keyed-none, keyed-each}
 use Rattle.lightpath.specs.declared.Circuit.{Circuit}
-use Rattle.channels.specs.Slot.{Slot, unlit, alone, shared, held, named, without, holds}
+use Rattle.slots.specs.Slot.{held, named, without, holds}
+use Rattle.slots.specs.declared.Slot.{Slot}
+use Rattle.slots.specs.declared.Slot.the-variants.{Unlit as unlit, Alone as alone, Shared as shared}
 use Rattle.channels.specs.Channels.{Channels, at, circuits, numbered, live, whereIs, circuitOf}
 use Rattle.channels.specs.Change.{_gets_}
 use Rattle.channels.proofs.Places.{weigh-place, weigh-places, weigh-nowhere}

@@ -11,7 +11,9 @@ use lib.Seq.{drop-cons, getD-drop, getD-set-same, getD-set-other}
 use Rattle.basis.specs.Count.{weigh}
 use Rattle.basis.proofs.Weigh.{weigh-append}
 use Rattle.lightpath.specs.declared.Circuit.{Circuit}
-use Rattle.channels.specs.Slot.{Slot, unlit, alone, shared, held, isUnlit}
+use Rattle.slots.specs.Slot.{held, isUnlit}
+use Rattle.slots.specs.declared.Slot.{Slot}
+use Rattle.slots.specs.declared.Slot.the-variants.{Unlit as unlit, Alone as alone, Shared as shared}
 use Rattle.channels.specs.Channels.{Channels, unlitChannel, at, slots, allHeld, circuits}
 use Rattle.channels.specs.Change.{Change, put}
 

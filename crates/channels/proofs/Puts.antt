@@ -10,7 +10,9 @@ use lib.Seq.{set-set}
 use Rattle.basis.specs.Count.{weigh, All}
 use Rattle.basis.proofs.Bools.{all-map}
 use Rattle.lightpath.specs.declared.Circuit.{Circuit}
-use Rattle.channels.specs.Slot.{Slot, unlit, held}
+use Rattle.slots.specs.Slot.{held}
+use Rattle.slots.specs.declared.Slot.{Slot}
+use Rattle.slots.specs.declared.Slot.the-variants.{Unlit as unlit}
 use Rattle.channels.specs.Channels.{Channels, at, slots, circuits}
 use Rattle.channels.specs.Change.{Change, Changes, _gets_, put, puts, oneChange, twoChanges, threeChanges, inOrder, Placed}
 use Rattle.channels.proofs.Places.{weigh-slots, weigh-place, weigh-nowhere, put-length, put-here, put-there, put-sum}

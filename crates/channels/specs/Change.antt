@@ -2,7 +2,7 @@
 use Prim.Native.Nat.{ℕ, _<_}
 use mathlib.Core.List.{List, [], _∷_}
 use lib.ListN.{set}
-use Rattle.channels.specs.Slot.{Slot}
+use Rattle.slots.specs.declared.Slot.{Slot}
 use Rattle.channels.specs.Channels.{Channels}
 pub use Rattle.channels.specs.declared.Change.{Change}
 pub use Rattle.channels.specs.declared.Changes.{Changes}

@@ -8,7 +8,11 @@ use Rattle.basis.specs.Choice.{bit}
 use Rattle.basis.specs.Count.{weigh, tally}
 use Rattle.basis.specs.Search.{firstBelow}
 use Rattle.lightpath.specs.declared.Circuit.{Circuit}
-use Rattle.channels.specs.Slot.{Slot, unlit, held, isLit, named, holds}
+use Rattle.lit_words.specs.Lit.{wordsOf}
+use Rattle.lit_words.specs.declared.Lit.{Lit}
+use Rattle.slots.specs.Slot.{held, isLit, named, holds}
+use Rattle.slots.specs.declared.Slot.{Slot}
+use Rattle.slots.specs.declared.Slot.the-variants.{Unlit as unlit}
 pub use Rattle.channels.specs.declared.Channel.{Channel}
 
 -- the places of a table
@@ -60,3 +64,10 @@ circuitOf t n = named n (at t (whereIs t n))
 -- how many places are lit
 abbrev pub litPlaces : Channels → ℕ
 litPlaces t = weigh (λ s. bit (isLit s)) (slots t)
+
+-- whether place p is lit, and the two words that say it of all places
+abbrev pub litAt : Channels → ℕ → Bool
+litAt t p = isLit (at t p)
+
+abbrev pub litOf : Channels → Lit
+litOf t = wordsOf (litAt t)

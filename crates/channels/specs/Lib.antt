@@ -1,7 +1,4 @@
--- What stands at the places of a table: one place, all of them, changes, the nonsharing circuits, the lit words, and a list in an array.
-pub mod Slot
+-- What stands at the places of a table: all of them, changes, and the nonsharing circuits.
 pub mod Channels
 pub mod Change
 pub mod Nonsharing
-pub mod Lit
-pub mod Gathering

@@ -4,7 +4,9 @@ use mathlib.Core.Bool.{Bool}
 use mathlib.Core.List.{List, [], _∷_}
 use lib.ListN.{take}
 use Rattle.lightpath.specs.Circuit.{adjacent}
-use Rattle.channels.specs.Slot.{Slot, unlit, alone, shared, firstOf}
+use Rattle.slots.specs.Slot.{firstOf}
+use Rattle.slots.specs.declared.Slot.{Slot}
+use Rattle.slots.specs.declared.Slot.the-variants.{Unlit as unlit, Alone as alone, Shared as shared}
 use Rattle.channels.specs.Channels.{Channels, at, slots}
 pub use Rattle.channels.specs.declared.Standing.{Standing}
 

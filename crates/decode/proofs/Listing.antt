@@ -8,9 +8,9 @@ use native.Mathlib.Omega.{arith}
 use lib.ListN.{length, take, drop, set, length-set}
 use lib.Seq.{take-suc-set, take-all}
 use Rattle.channels.specs.declared.Channel.{Channel}
-use Rattle.channels.specs.declared.Slot.{Slot}
+use Rattle.slots.specs.declared.Slot.{Slot}
 use Rattle.channels.specs.Channels.{Channels}
-use Rattle.ring.specs.declared.Refusal.{Refusal}
+use Rattle.refusals.specs.declared.Refusal.{Refusal}
 use Rattle.form.specs.Reader.{Field, got, fault, Reader, andThen}
 use Rattle.form.specs.Reading.{readPlace, readRecords}
 use Rattle.decode.specs.declared.places.SlotRead.{SlotRead}

@@ -6,10 +6,10 @@ use mathlib.Core.List.{List}
 use lib.ListN.{length, getD, drop, drop-of-length-le}
 use borrow.Author.Tests.{not-true, not-false}
 use Rattle.lightpath.specs.declared.Circuit.{Circuit}
-use Rattle.channels.specs.declared.Slot.the-variants.{Unlit as unlit, Alone as alone, Shared as shared}
-use Rattle.channels.specs.Lit.{bitOf}
-use Rattle.ring.specs.declared.Refusal.{Refusal}
-use Rattle.ring.specs.declared.Refusal.the-variants.{CutShort, BadField}
+use Rattle.slots.specs.declared.Slot.the-variants.{Unlit as unlit, Alone as alone, Shared as shared}
+use Rattle.lit_words.specs.Lit.{bitOf}
+use Rattle.refusals.specs.declared.Refusal.{Refusal}
+use Rattle.refusals.specs.declared.Refusal.the-variants.{CutShort, BadField}
 use Rattle.form.specs.Reader.{got, fault, andThen}
 use Rattle.form.specs.Reading.{readCircuit, mapHolds, readSecond, readRecord, readPlace}
 use Rattle.decode.specs.declared.circuit.CircuitRead.{CircuitRead}

@@ -9,11 +9,11 @@ use lib.ListN.{length, getD, take, drop}
 use lib.Seq.{length-take-le}
 use borrow.Author.Tests.{le-leb, lt-leb, eq-eqb}
 use Rattle.basis.specs.Count.{total}
-use Rattle.rules.specs.Ports.{eachAtMost}
+use Rattle.ports.specs.Ports.{eachAtMost}
 use Rattle.ring.specs.Making.{makeOf}
 use Rattle.ring.specs.declared.Answered.{Answered}
-use Rattle.ring.specs.declared.Refusal.{Refusal}
-use Rattle.ring.specs.declared.Refusal.the-variants.{NodeCount, PortCount, PortSum, CutShort}
+use Rattle.refusals.specs.declared.Refusal.{Refusal}
+use Rattle.refusals.specs.declared.Refusal.the-variants.{NodeCount, PortCount, PortSum, CutShort}
 use Rattle.form.specs.Reader.{fault, andThen, give, _unless_}
 use Rattle.form.specs.Reading.{answeredBy, readPorts}
 use Rattle.decode.specs.Begun.{ringBy}

@@ -7,9 +7,9 @@ use native.Mathlib.Omega.{arith}
 use lib.ListN.{getD, take, drop}
 use lib.Pow.{pow-mono}
 use lib.Seq.{getD-take, getD-drop}
-use Rattle.channels.specs.Lit.{word}
+use Rattle.lit_words.specs.Lit.{word}
 use Rattle.form.specs.Reading.{mapBit}
-use Rattle.channels.proofs.Bits.{word-lt}
+use Rattle.lit_words.proofs.Bits.{word-lt}
 use Rattle.form.proofs.Words.{word-of, low-byte}
 
 -- byte q of the map is the word of its eight places

@@ -4,13 +4,13 @@ use mathlib.Core.Path.{_≡_}
 use mathlib.Core.List.{List}
 use lib.ListN.{length, drop}
 use Rattle.basis.specs.Choice.{pick}
-use Rattle.channels.specs.declared.Lit.{Lit}
-use Rattle.channels.specs.Lit.{litBit}
+use Rattle.lit_words.specs.declared.Lit.{Lit}
+use Rattle.lit_words.specs.Lit.{litBit}
 use Rattle.ring.specs.Table.{meetsRules, blankTable, freshTable}
 use Rattle.ring.specs.declared.RingTable.{RingTable}
-use Rattle.ring.specs.declared.Refusal.the-variants.{BrokenForm}
+use Rattle.refusals.specs.declared.Refusal.the-variants.{BrokenForm}
 use Rattle.ring.specs.declared.Answered.{Answered}
-use Rattle.ring.specs.declared.Verdict.the-variants.{Granted as granted, Refused as refused}
+use Rattle.refusals.specs.declared.Verdict.the-variants.{Granted as granted, Refused as refused}
 use Rattle.form.specs.Reader.{Field, got, fault, andThen, _>>_, end}
 use Rattle.form.specs.Reading.{readPorts, readRecords, checked, readTable, answeredBy}
 

@@ -8,7 +8,7 @@ ghost use Rattle.form.specs.Bytes.{numberIn};
 ghost use Rattle.form.specs.Reading.{readRemark, readCircuit};
 ghost use Rattle.decode.specs.Found.{RemarkAt, CircuitAt};
 use lightpath::Circuit;
-use ring::Refusal;
+use refusals::Refusal;
 
 // A remark and the position after it, or a refusal.
 pub enum RemarkRead {

@@ -12,11 +12,11 @@ ghost use Rattle.form.specs.Reader.{fault};
 ghost use Rattle.form.specs.Reading.{answeredBy, readPorts, readOf};
 ghost use Rattle.decode.specs.Begun.{ringBy, judgedTable, Ported, Mapped};
 use channels::Channel;
-use channels::Lit;
+use lit_words::Lit;
+use refusals::Refusal;
+use refusals::Verdict;
 use ring::Answered;
-use ring::Refusal;
 use ring::RingTable;
-use ring::Verdict;
 
 // A refused reading hands back the blank table.
 fn refused(refusal: Refusal) -> Answered
@@ -101,7 +101,7 @@ fn read_places(form: &[u8], ring: RingTable) -> Answered
     }
     let lit = map::read_map(form, start);
     let ports = ring.ports;
-    if !map::none_lit_from(lit, rules::place_limit(ports)) {
+    if !map::none_lit_from(lit, ports::place_limit(ports)) {
         return refused(Refusal::BadField);
     }
     read_channels(form, ring, lit)

@@ -5,9 +5,9 @@ ghost use mathlib.Core.Bool.{_||_, not};
 ghost use Prim.Native.Nat.{_+_, _*_, _^_, _≤_, _<_};
 ghost use lib.Dec.{ltb};
 ghost use lib.ListN.{length, take, drop};
-ghost use Rattle.channels.specs.Lit.{word, litBit, wordsOf};
+ghost use Rattle.lit_words.specs.Lit.{word, litBit, wordsOf};
 ghost use Rattle.form.specs.Reading.{mapBit, noneLitFrom};
-use channels::Lit;
+use lit_words::Lit;
 
 // Whether the words of the map say that a place is lit.
 pub fn is_lit(lit: Lit, place: usize) -> bool

@@ -3,16 +3,16 @@
 ghost use mathlib.Core.Path.{_≡_};
 ghost use Prim.Native.Nat.{_+_, _≤_, _<_};
 ghost use lib.ListN.{length, drop};
-ghost use Rattle.channels.specs.Lit.{bitOf, litBit};
+ghost use Rattle.lit_words.specs.Lit.{bitOf, litBit};
 ghost use Rattle.form.specs.Reading.{mapHolds, readSecond, readRecord, readPlace, readRecords};
 ghost use Rattle.decode.specs.Found.{SlotAt, RecordsAt};
 use crate::circuit::CircuitRead;
 use channels::Channel;
-use channels::Lit;
-use channels::Slot;
 use lightpath::Circuit;
-use ring::Refusal;
-use ring::Verdict;
+use lit_words::Lit;
+use refusals::Refusal;
+use refusals::Verdict;
+use slots::Slot;
 
 // What a place holds and the position after its record, or a refusal.
 pub enum SlotRead {

@@ -11,7 +11,7 @@ use borrow.Author.Tests.{lt-ltb, le-ltb, not-true, not-false}
 use Rattle.rules.proofs.Rules.{rules-hold, limits-hold}
 use Rattle.ring.specs.Table.{meetsRules}
 use Rattle.ring.specs.declared.RingTable.{RingTable}
-use Rattle.ring.specs.declared.Refusal.the-variants.{ShortBuffer, BrokenRule}
+use Rattle.refusals.specs.declared.Refusal.the-variants.{ShortBuffer, BrokenRule}
 use Rattle.form.specs.Form.{formOf}
 use Rattle.encode.specs.declared.Written.the-variants.{Length, Refused}
 use Rattle.text.specs.Put.{Room, Put}

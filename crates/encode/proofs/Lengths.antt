@@ -10,13 +10,13 @@ use borrow.Author.Tests.{eq-eqb, ne-eqb}
 use Rattle.basis.specs.Choice.{bit}
 use Rattle.basis.specs.Count.{countBelow}
 use Rattle.lightpath.specs.declared.Circuit.{Circuit}
-use Rattle.channels.specs.declared.Lit.{Lit}
-use Rattle.channels.specs.declared.Slot.{Slot}
-use Rattle.channels.specs.declared.Slot.the-variants.{Unlit as unlit, Alone as alone, Shared as shared}
-use Rattle.channels.specs.Slot.{isLit}
-use Rattle.channels.specs.Channels.{Channels, unlitChannel, at, litPlaces}
-use Rattle.channels.specs.Lit.{litBit, litOf}
-use Rattle.channels.proofs.Words.{lit-places}
+use Rattle.lit_words.specs.declared.Lit.{Lit}
+use Rattle.slots.specs.declared.Slot.{Slot}
+use Rattle.slots.specs.declared.Slot.the-variants.{Unlit as unlit, Alone as alone, Shared as shared}
+use Rattle.slots.specs.Slot.{isLit}
+use Rattle.channels.specs.Channels.{Channels, unlitChannel, at, litPlaces, litOf}
+use Rattle.lit_words.specs.Lit.{litBit}
+use Rattle.channels.proofs.LitPlaces.{lit-places}
 use Rattle.ring.specs.declared.RingTable.{RingTable}
 use Rattle.form.specs.Bytes.{fourBytes, twoBytes}
 use Rattle.form.specs.Form.{remarkBytes, circuitBytes, recordBytes, recordsBytes, formOf}

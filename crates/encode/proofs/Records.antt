@@ -10,10 +10,10 @@ use lib.ListN.{length, getD, drop, drop-of-length-le}
 use lib.Seq.{drop-cons}
 use Rattle.basis.specs.Choice.{bit}
 use Rattle.lightpath.specs.declared.Circuit.{Circuit}
-use Rattle.channels.specs.declared.Slot.{Slot}
-use Rattle.channels.specs.declared.Slot.the-variants.{Unlit as unlit, Alone as alone, Shared as shared}
+use Rattle.slots.specs.declared.Slot.{Slot}
+use Rattle.slots.specs.declared.Slot.the-variants.{Unlit as unlit, Alone as alone, Shared as shared}
 use Rattle.channels.specs.Channels.{Channels, unlitChannel}
-use Rattle.channels.specs.Lit.{word}
+use Rattle.lit_words.specs.Lit.{word}
 use Rattle.form.specs.Form.{hasRemark, fieldMap, circuitBytes, recordBytes, recordsBytes}
 use Rattle.text.specs.Put.{Room, Put}
 use Rattle.encode.proofs.Chain.{Putting, start, first, again, none, then, done}

@@ -6,9 +6,10 @@ use mathlib.Core.List.{List, [], _∷_, _++_}
 use native.Mathlib.Omega.{arith}
 use lib.ListN.{length, take}
 use lib.Seq.{length-take-le}
-use Rattle.channels.specs.declared.Lit.{Lit}
-use Rattle.channels.specs.Lit.{word, litAt, litOf}
-use Rattle.channels.proofs.Bits.{word-lt}
+use Rattle.lit_words.specs.declared.Lit.{Lit}
+use Rattle.lit_words.specs.Lit.{word}
+use Rattle.channels.specs.Channels.{litAt, litOf}
+use Rattle.lit_words.proofs.Bits.{word-lt}
 use Rattle.ring.specs.declared.RingTable.{RingTable}
 use Rattle.form.specs.Form.{mapBytes, recordsBytes, portsBytes, formOf}
 use Rattle.form.proofs.Words.{low-byte}

@@ -3,7 +3,7 @@ use Prim.Native.Nat.{ℕ, suc, _+_, _-_, _/_, _%_, _≤_, _<_}
 use mathlib.Core.Path.{_≡_, refl}
 use mathlib.Core.List.{List, [], _∷_, _++_}
 use native.Mathlib.Omega.{arith}
-use Rattle.channels.specs.declared.Lit.{Lit}
+use Rattle.lit_words.specs.declared.Lit.{Lit}
 use Rattle.text.specs.Put.{Room, Put}
 use Rattle.encode.specs.Words.{lowFirst, wordsBytes}
 use Rattle.encode.proofs.Chain.{Putting, start, first, again, none, then, done}

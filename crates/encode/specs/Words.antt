@@ -2,8 +2,8 @@
 use Prim.Native.Nat.{ℕ, zero, suc, _/_, _%_}
 use mathlib.Core.List.{List, [], _∷_, _++_}
 use Rattle.basis.specs.Count.{countBelow}
-use Rattle.channels.specs.declared.Lit.{Lit}
-use Rattle.channels.specs.Lit.{litBit}
+use Rattle.lit_words.specs.declared.Lit.{Lit}
+use Rattle.lit_words.specs.Lit.{litBit}
 
 -- the k lowest bytes of w, lowest first
 unfoldable pub lowFirst : ℕ → ℕ → List ℕ

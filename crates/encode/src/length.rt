@@ -4,15 +4,15 @@ ghost use mathlib.Core.Path.{_≡_};
 ghost use Prim.Native.Nat.{_+_, _≤_};
 ghost use lib.ListN.{length};
 ghost use Rattle.basis.specs.Choice.{bit};
-ghost use Rattle.channels.specs.Slot.{isLit};
-ghost use Rattle.channels.specs.Lit.{litOf};
+ghost use Rattle.slots.specs.Slot.{isLit};
+ghost use Rattle.channels.specs.Channels.{litOf};
 ghost use Rattle.form.specs.Form.{circuitBytes, recordBytes, recordsBytes, formOf};
 ghost use Rattle.encode.specs.Words.{onesOf};
 use channels::Channel;
-use channels::Lit;
-use channels::Slot;
 use lightpath::Circuit;
+use lit_words::Lit;
 use ring::RingTable;
+use slots::Slot;
 
 // How many bytes a circuit takes.
 fn circuit_length(circuit: Circuit) -> usize

@@ -10,12 +10,12 @@ ghost use mathlib.Core.Bool.{true};
 ghost use Prim.Native.Nat.{_≤_};
 ghost use lib.ListN.{length};
 ghost use Rattle.text.specs.Put.{Room, Put};
-ghost use Rattle.channels.specs.Lit.{litOf};
+ghost use Rattle.channels.specs.Channels.{litOf};
 ghost use Rattle.form.specs.Form.{formOf};
 ghost use Rattle.ring.specs.Table.{meetsRules};
 ghost use Rattle.encode.specs.Answer.{writtenOf, bytesAfter};
-use channels::Lit;
-use ring::Refusal;
+use lit_words::Lit;
+use refusals::Refusal;
 use ring::RingTable;
 
 // The length of the form, or a refusal.

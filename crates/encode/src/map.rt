@@ -2,7 +2,7 @@
 
 ghost use Rattle.text.specs.Put.{Room, Put};
 ghost use Rattle.encode.specs.Words.{lowFirst, wordsBytes};
-use channels::Lit;
+use lit_words::Lit;
 
 // Writes the eight bytes of a word, lowest first.
 fn put_word(out: &mut [u8], start: usize, word: u64) -> usize

@@ -7,8 +7,8 @@ ghost use Rattle.basis.specs.Choice.{bit};
 ghost use Rattle.text.specs.Put.{Room, Put};
 ghost use Rattle.form.specs.Form.{hasRemark, fieldMap, recordBytes, recordsBytes};
 use channels::Channel;
-use channels::Slot;
 use lightpath::Circuit;
+use slots::Slot;
 
 // 1 where the circuit has a remark.
 fn mark(circuit: Circuit) -> u8

@@ -10,8 +10,8 @@ use borrow.Author.Tests.{leb-true}
 use Rattle.basis.specs.Choice.{pick}
 use Rattle.basis.specs.Count.{All}
 use Rattle.basis.proofs.Bools.{all-left, all-right}
-use Rattle.ring.specs.declared.Refusal.{Refusal}
-use Rattle.ring.specs.declared.Refusal.the-variants.{CutShort}
+use Rattle.refusals.specs.declared.Refusal.{Refusal}
+use Rattle.refusals.specs.declared.Refusal.the-variants.{CutShort}
 use Rattle.form.specs.Reader.{Field, got, fault, Reader, andThen, _unless_, byte, bytes}
 
 -- a fact of the value and of the bytes after it, if the field is read

@@ -16,13 +16,12 @@ use Rattle.basis.proofs.Sums.{sum-le, by-nodes}
 use Rattle.lightpath.specs.Circuit.{joins}
 use Rattle.lightpath.specs.declared.Circuit.{Circuit}
 use Rattle.lightpath.proofs.Links.{on-ring}
-use Rattle.channels.specs.declared.Slot.{Slot}
-use Rattle.channels.specs.declared.Slot.the-variants.{Unlit as unlit, Alone as alone, Shared as shared}
-use Rattle.channels.specs.Slot.{held}
-use Rattle.channels.specs.Channels.{Channels, slots, allHeld, circuits}
-use Rattle.channels.specs.Lit.{litAt}
+use Rattle.slots.specs.declared.Slot.{Slot}
+use Rattle.slots.specs.declared.Slot.the-variants.{Unlit as unlit, Alone as alone, Shared as shared}
+use Rattle.slots.specs.Slot.{held}
+use Rattle.channels.specs.Channels.{Channels, slots, allHeld, circuits, litAt}
 use Rattle.channels.proofs.Places.{slots-length, slots-at}
-use Rattle.rules.specs.Ports.{sends}
+use Rattle.usage.specs.Usage.{sends}
 use Rattle.rules.specs.Rules.{ends}
 use Rattle.rules.proofs.Rules.{Rules, rules-hold, limits-hold}
 use Rattle.ring.specs.Table.{meetsRules}

@@ -10,7 +10,7 @@ use Rattle.basis.specs.Count.{total}
 use Rattle.basis.proofs.Bools.{and-left, and-right, and-both}
 use Rattle.basis.proofs.Fold.{total-parts}
 use Rattle.basis.proofs.Sums.{total-append, total-zeros}
-use Rattle.rules.specs.Ports.{limitOf, eachAtMost}
+use Rattle.ports.specs.Ports.{limitOf, eachAtMost}
 
 -- numbers that add up to nothing are zeros
 zeros : (ls : List ℕ) → total ls ≡ 0 → ls ≡ replicate (length ls) 0

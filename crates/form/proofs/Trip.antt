@@ -9,11 +9,10 @@ use lib.Dec.{eqb}
 use lib.ListN.{length}
 use borrow.Author.Tests.{le-leb, eqb-true}
 use Rattle.lightpath.specs.declared.Circuit.{Circuit}
-use Rattle.channels.specs.declared.Slot.{Slot}
-use Rattle.channels.specs.declared.Slot.the-variants.{Unlit as unlit, Alone as alone, Shared as shared}
-use Rattle.channels.specs.Slot.{isLit}
-use Rattle.channels.specs.Channels.{Channels}
-use Rattle.channels.specs.Lit.{litAt}
+use Rattle.slots.specs.declared.Slot.{Slot}
+use Rattle.slots.specs.declared.Slot.the-variants.{Unlit as unlit, Alone as alone, Shared as shared}
+use Rattle.slots.specs.Slot.{isLit}
+use Rattle.channels.specs.Channels.{Channels, litAt}
 use Rattle.form.specs.Bytes.{fourBytes, twoBytes, numberFrom, numberIn}
 use Rattle.form.specs.Form.{hasRemark, fieldMap, remarkBytes, circuitBytes, recordBytes, recordsBytes}
 use Rattle.form.specs.Reader.{got, bytes}

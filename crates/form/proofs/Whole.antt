@@ -12,14 +12,13 @@ use borrow.Author.Tests.{le-leb, leb-true, eqb-true, ltb-false}
 use Rattle.basis.specs.Count.{total}
 use Rattle.basis.proofs.Bools.{and-left, and-right, all-right}
 use Rattle.basis.proofs.Search.{at-every}
-use Rattle.channels.specs.Channels.{Channels}
-use Rattle.channels.specs.Lit.{litAt}
-use Rattle.channels.proofs.Words.{unlit-not}
-use Rattle.rules.specs.Ports.{limitOf, eachAtMost}
+use Rattle.channels.specs.Channels.{Channels, litAt}
+use Rattle.channels.proofs.LitPlaces.{unlit-not}
+use Rattle.ports.specs.Ports.{limitOf, eachAtMost}
 use Rattle.rules.proofs.Rules.{rules-hold, limits-hold}
 use Rattle.ring.specs.Table.{meetsRules, freshTable, withChannels}
 use Rattle.ring.specs.declared.RingTable.{RingTable}
-use Rattle.ring.specs.declared.Refusal.the-variants.{NodeCount, PortCount, PortSum, BadField, BrokenForm}
+use Rattle.refusals.specs.declared.Refusal.the-variants.{NodeCount, PortCount, PortSum, BadField, BrokenForm}
 use Rattle.form.specs.Form.{mapBytes, recordsBytes, portsBytes, formOf}
 use Rattle.form.specs.Reader.{got, byte, bytes, end}
 use Rattle.form.specs.Reading.{readPorts, mapBit, noneLitFrom, readMap, readRecords, checked, readTable}

@@ -9,8 +9,8 @@ use lib.Dec.{eqb}
 use lib.ListN.{length, getD}
 use Rattle.basis.specs.Choice.{bit}
 use Rattle.basis.specs.Count.{All}
-use Rattle.channels.specs.Lit.{bitOf, word}
-use Rattle.channels.proofs.Bits.{word-bit}
+use Rattle.lit_words.specs.Lit.{bitOf, word}
+use Rattle.lit_words.proofs.Bits.{word-bit}
 use Rattle.form.specs.Form.{mapBytes}
 use Rattle.form.specs.Reading.{mapBit}
 

@@ -4,9 +4,9 @@
 
 use encode::Written;
 use libc::STDOUT_FILENO;
-use ring::Refusal;
+use refusals::Refusal;
+use refusals::Verdict;
 use ring::RingTable;
-use ring::Verdict;
 
 // Document 01's ring of five nodes, with circuit 11 alone at place 0.
 const ALONE: [u8; 29] = [
@@ -59,7 +59,7 @@ fn end_line() {
 
 // A refusal's number.
 fn print_refusal(refusal: Refusal) {
-    print(b" refused ", wide(ring::refusal_number(refusal)));
+    print(b" refused ", wide(refusals::refusal_number(refusal)));
 }
 
 // The bytes of a buffer, with a bar where the first so many end.

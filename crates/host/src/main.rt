@@ -10,11 +10,11 @@ use libc::STDOUT_FILENO;
 use lightpath::Circuit;
 use lightpath::Place;
 use moves::Move;
+use refusals::Refusal;
+use refusals::Verdict;
 use ring::Opened;
 use ring::Opening;
-use ring::Refusal;
 use ring::RingTable;
-use ring::Verdict;
 
 // A byte as a number to print.
 fn wide8(x: u8) -> u64 {
@@ -44,7 +44,7 @@ fn end_line() {
 
 // The number of a refusal.
 fn print_refusal(refusal: Refusal) {
-    print(b" refused ", wide8(ring::refusal_number(refusal)));
+    print(b" refused ", wide8(refusals::refusal_number(refusal)));
 }
 
 // A record of the list that was lent.

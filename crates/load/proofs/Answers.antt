@@ -9,9 +9,9 @@ use borrow.Author.Tests.{lt-ltb, le-ltb}
 use Rattle.rules.proofs.Rules.{rules-hold, limits-hold}
 use Rattle.ring.specs.Table.{meetsRules}
 use Rattle.ring.specs.declared.RingTable.{RingTable}
-use Rattle.ring.specs.declared.Refusal.the-variants.{ShortBuffer, BrokenRule}
-use Rattle.ring.specs.declared.Verdict.{Verdict}
-use Rattle.ring.specs.declared.Verdict.the-variants.{Granted as granted, Refused as refused}
+use Rattle.refusals.specs.declared.Refusal.the-variants.{ShortBuffer, BrokenRule}
+use Rattle.refusals.specs.declared.Verdict.{Verdict}
+use Rattle.refusals.specs.declared.Verdict.the-variants.{Granted as granted, Refused as refused}
 use Rattle.load.specs.Load.{loads}
 use Rattle.load.specs.Report.{reportOf, bufferAfter}
 

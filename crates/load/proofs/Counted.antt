@@ -11,9 +11,9 @@ use Rattle.lightpath.specs.Place.{placeOf}
 use Rattle.lightpath.specs.Circuit.{uses}
 use Rattle.lightpath.specs.declared.Circuit.{Circuit}
 use Rattle.lightpath.specs.declared.Direction.{Direction}
-use Rattle.channels.specs.Slot.{held}
-use Rattle.channels.specs.declared.Slot.{Slot}
-use Rattle.channels.specs.declared.Slot.the-variants.{Alone as alone, Shared as shared}
+use Rattle.slots.specs.Slot.{held}
+use Rattle.slots.specs.declared.Slot.{Slot}
+use Rattle.slots.specs.declared.Slot.the-variants.{Alone as alone, Shared as shared}
 use Rattle.channels.specs.Channels.{Channels, at}
 use Rattle.load.specs.Load.{lightpathsBelow, users, linkLoad}
 

@@ -15,11 +15,11 @@ use Rattle.lightpath.specs.Circuit.{uses}
 use Rattle.lightpath.specs.declared.Direction.{Direction}
 use Rattle.lightpath.specs.declared.Direction.the-variants.{Clockwise as clockwise, Counterclockwise as counterclockwise}
 use Rattle.lightpath.proofs.Places.{direction-place}
-use Rattle.channels.specs.Slot.{held, isUnlit}
-use Rattle.channels.specs.declared.Slot.{Slot}
-use Rattle.channels.specs.declared.Slot.the-variants.{Unlit as unlit, Alone as alone, Shared as shared}
+use Rattle.slots.specs.Slot.{held, isUnlit}
+use Rattle.slots.specs.declared.Slot.{Slot}
+use Rattle.slots.specs.declared.Slot.the-variants.{Unlit as unlit, Alone as alone, Shared as shared}
 use Rattle.channels.specs.Channels.{Channels, at}
-use Rattle.rules.specs.Ports.{wavelengths, limitOf}
+use Rattle.ports.specs.Ports.{wavelengths, limitOf}
 use Rattle.rules.proofs.Rules.{Rules, rules-hold}
 use Rattle.rules.proofs.Fits.{rules-links}
 use Rattle.ring.specs.Table.{meetsRules}

@@ -8,7 +8,7 @@ use Rattle.lightpath.specs.Circuit.{uses}
 use Rattle.lightpath.specs.declared.Circuit.{Circuit}
 use Rattle.lightpath.specs.declared.Direction.{Direction}
 use Rattle.lightpath.specs.declared.Direction.the-variants.{Clockwise as clockwise, Counterclockwise as counterclockwise}
-use Rattle.channels.specs.Slot.{held}
+use Rattle.slots.specs.Slot.{held}
 use Rattle.channels.specs.Channels.{Channels, at}
 
 -- a circuit at its place is a lightpath: those of direction d on the wavelengths below n

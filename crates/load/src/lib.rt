@@ -6,18 +6,18 @@ ghost use mathlib.Core.List.{_++_};
 ghost use Prim.Native.Nat.{_*_, _<_, _≤_};
 ghost use lib.ListN.{length, drop};
 ghost use Rattle.lightpath.specs.Place.{placeOf};
-ghost use Rattle.channels.specs.Slot.{held};
+ghost use Rattle.slots.specs.Slot.{held};
 ghost use Rattle.channels.specs.Channels.{at};
 ghost use Rattle.ring.specs.Table.{meetsRules};
 ghost use Rattle.load.specs.Load.{users, linkLoad, loads};
 ghost use Rattle.load.specs.Report.{reportOf, bufferAfter};
 use channels::Channel;
-use channels::Slot;
 use lightpath::Direction;
 use lightpath::Wavelength;
-use ring::Refusal;
+use refusals::Refusal;
+use refusals::Verdict;
 use ring::RingTable;
-use ring::Verdict;
+use slots::Slot;
 
 // How many of the circuits of a place, lightpaths in its direction, use a link.
 fn users(nodes: u8, direction: Direction, link: u8, slot: Slot) -> u8

@@ -10,14 +10,14 @@ use Rattle.lightpath.specs.Place.{sideOf, placeOf}
 use Rattle.lightpath.specs.Circuit.{uses}
 use Rattle.lightpath.specs.declared.Circuit.{Circuit}
 use Rattle.lightpath.specs.declared.Direction.{Direction}
-use Rattle.channels.specs.Slot.{held}
+use Rattle.slots.specs.Slot.{held}
 use Rattle.channels.specs.Channels.{at}
-use Rattle.rules.specs.Ports.{wavelengths}
+use Rattle.ports.specs.Ports.{wavelengths}
 use Rattle.ring.specs.Table.{meetsRules}
 use Rattle.ring.specs.declared.RingTable.{RingTable}
 use Rattle.ring.specs.declared.Answered.{Answered}
-use Rattle.ring.specs.declared.Refusal.{Refusal}
-use Rattle.ring.specs.declared.Verdict.the-variants.{Granted as granted, Refused as refused}
+use Rattle.refusals.specs.declared.Refusal.{Refusal}
+use Rattle.refusals.specs.declared.Verdict.the-variants.{Granted as granted, Refused as refused}
 use Rattle.form.specs.Reading.{readOf}
 use Rattle.form.proofs.Laws.{read-meets}
 use Rattle.monitor.specs.Link.{none, refusalOf, linkOf}

@@ -16,9 +16,9 @@ use Rattle.lightpath.specs.declared.Circuit.{Circuit}
 use Rattle.lightpath.specs.declared.Direction.{Direction}
 use Rattle.lightpath.specs.declared.Direction.the-variants.{Clockwise as clockwise, Counterclockwise as counterclockwise}
 use Rattle.lightpath.proofs.Places.{direction-place}
-use Rattle.channels.specs.Slot.{held}
+use Rattle.slots.specs.Slot.{held}
 use Rattle.channels.specs.Channels.{at}
-use Rattle.rules.specs.Ports.{wavelengths}
+use Rattle.ports.specs.Ports.{wavelengths}
 use Rattle.rules.proofs.Rules.{rules-hold}
 use Rattle.rules.proofs.Fits.{rules-links}
 use Rattle.ring.specs.Table.{meetsRules}

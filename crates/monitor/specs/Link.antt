@@ -10,15 +10,15 @@ use Rattle.lightpath.specs.Circuit.{onRing, uses}
 use Rattle.lightpath.specs.declared.Circuit.{Circuit}
 use Rattle.lightpath.specs.declared.Direction.{Direction}
 use Rattle.lightpath.specs.declared.Direction.the-variants.{Clockwise as clockwise, Counterclockwise as counterclockwise}
-use Rattle.channels.specs.Slot.{held}
+use Rattle.slots.specs.Slot.{held}
 use Rattle.channels.specs.Channels.{at}
-use Rattle.rules.specs.Ports.{wavelengths}
-use Rattle.ring.specs.Refusal.{numberOf, Cause, _if_, judged}
+use Rattle.ports.specs.Ports.{wavelengths}
+use Rattle.refusals.specs.Refusal.{numberOf, Cause, _if_, judged}
 use Rattle.ring.specs.declared.RingTable.{RingTable}
-use Rattle.ring.specs.declared.Refusal.{Refusal}
-use Rattle.ring.specs.declared.Refusal.the-variants.{OffRing, NoWavelength, NoDirection}
-use Rattle.ring.specs.declared.Verdict.{Verdict}
-use Rattle.ring.specs.declared.Verdict.the-variants.{Granted as granted, Refused as refused}
+use Rattle.refusals.specs.declared.Refusal.{Refusal}
+use Rattle.refusals.specs.declared.Refusal.the-variants.{OffRing, NoWavelength, NoDirection}
+use Rattle.refusals.specs.declared.Verdict.{Verdict}
+use Rattle.refusals.specs.declared.Verdict.the-variants.{Granted as granted, Refused as refused}
 
 -- 4,294,967,296 for none
 abbrev pub none : ℕ

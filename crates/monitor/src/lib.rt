@@ -3,17 +3,17 @@
 ghost use mathlib.Core.Path.{_≡_};
 ghost use mathlib.Core.Bool.{true};
 ghost use Prim.Native.Nat.{_<_};
-ghost use Rattle.channels.specs.Slot.{held};
+ghost use Rattle.slots.specs.Slot.{held};
 ghost use Rattle.lightpath.specs.Circuit.{onRing};
 ghost use Rattle.ring.specs.Table.{meetsRules};
 ghost use Rattle.monitor.specs.Link.{refusalOf, way, running, circuitOn, linkVerdict, linkOf, Asked};
 ghost use Rattle.monitor.specs.Question.{ringLink};
-use channels::Slot;
 use lightpath::Direction;
 use lightpath::Wavelength;
-use ring::Refusal;
+use refusals::Refusal;
+use refusals::Verdict;
 use ring::RingTable;
-use ring::Verdict;
+use slots::Slot;
 
 // The answer where no circuit runs there.
 const NONE: u64 = 4294967296;
@@ -22,7 +22,7 @@ const NONE: u64 = 4294967296;
 fn refused(refusal: Refusal) -> u64
     ensures { λ r. ⌜ r ≡ refusalOf refusal ⌝ }
 {
-    NONE + ring::refusal_number(refusal) as u64
+    NONE + refusals::refusal_number(refusal) as u64
 }
 
 // The direction of a number: 0 clockwise, 1 counterclockwise.

@@ -12,7 +12,7 @@ use borrow.Author.Tests.{lt-leb, le-leb}
 use Rattle.basis.specs.Count.{total}
 use Rattle.basis.proofs.Sums.{total-append, total-zeros}
 use Rattle.rules.proofs.Fresh.{each-zeros}
-use Rattle.ring.specs.Refusal.{judged}
+use Rattle.refusals.specs.Refusal.{judged}
 use Rattle.ring.specs.Making.{portCauses}
 
 -- the first i fields are a list's, and those after are zero

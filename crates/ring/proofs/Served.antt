@@ -10,20 +10,24 @@ use lib.ListN.{getD}
 use borrow.Author.Tests.{not-true}
 use Rattle.lightpath.specs.declared.Circuit.{Circuit}
 use Rattle.moves.specs.Records.{listed}
-use Rattle.rules.specs.Ports.{limitOf}
+use Rattle.ports.specs.Ports.{limitOf}
 use Rattle.basis.proofs.Bools.{and-left, and-right}
 use Rattle.rules.specs.Rules.{unlitFrom}
 use Rattle.rules.proofs.Rules.{Rules, rules-hold, limits-hold}
 use Rattle.rules.proofs.Allowable.{Allowable}
-use Rattle.assign.specs.Survey.{surveyOf}
-use Rattle.assign.specs.declared.seen.Survey.{Survey}
-use Rattle.assign.specs.Assigned.{assignedOf, Ready}
+use Rattle.survey.specs.Survey.{surveyOf}
+use Rattle.survey.specs.declared.Survey.{Survey}
+use Rattle.assign.specs.Assigned.{assignedOf}
+use Rattle.steps.specs.Steps.{Ready}
 use Rattle.assign.specs.declared.Assigned.{Assigned}
-use Rattle.assign.specs.Kept.{Served}
-use Rattle.assign.proofs.Step3.{ready}
+use Rattle.steps.specs.Kept.{Served}
+use Rattle.steps.proofs.Step3.{ready}
 use Rattle.assign.proofs.ByValue.{assigned-serves, assigned-looks}
 use Rattle.ring.specs.Table.{RingTable, meetsRules}
-use Rattle.ring.specs.Refusal.{Verdict, granted, refused, ShortList, BrokenRule, _if_, judged}
+use Rattle.refusals.specs.Refusal.{_if_, judged}
+use Rattle.refusals.specs.declared.Refusal.the-variants.{ShortList, BrokenRule}
+use Rattle.refusals.specs.declared.Verdict.{Verdict}
+use Rattle.refusals.specs.declared.Verdict.the-variants.{Granted as granted, Refused as refused}
 use Rattle.ring.specs.Opening.{Decision, surveyed, requestCauses, openCauses, served, refusing, decidedBy, decideOf}
 use Rattle.ring.specs.Answer.{Answer, openingAnswer}
 use Rattle.ring.proofs.Causes.{granted-rest, allowable}

@@ -1,7 +1,9 @@
 -- 01: the number and the values of an answer. An answer that is no refusal has the number 0. Assumes nothing.
 use Prim.Native.Nat.{ℕ}
 use mathlib.Core.List.{List, [], _∷_}
-use Rattle.ring.specs.Refusal.{numberOf, Verdict, granted, refused}
+use Rattle.refusals.specs.Refusal.{numberOf}
+use Rattle.refusals.specs.declared.Verdict.{Verdict}
+use Rattle.refusals.specs.declared.Verdict.the-variants.{Granted as granted, Refused as refused}
 use Rattle.ring.specs.Opening.{Opening, taken, notOpened}
 
 pub record Answer : Type 0 where

@@ -3,9 +3,12 @@ use Prim.Native.Nat.{ℕ}
 use mathlib.Core.Bool.{not}
 use mathlib.Core.List.{List, [], _∷_}
 use Rattle.channels.specs.Channels.{live}
-use Rattle.assign.specs.Closing.{closed}
+use Rattle.steps.specs.Closing.{closed}
 use Rattle.ring.specs.Table.{RingTable, meetsRules, withChannels}
-use Rattle.ring.specs.Refusal.{Verdict, granted, refused, NotLive, BrokenRule, Cause, _if_, judged}
+use Rattle.refusals.specs.Refusal.{Cause, _if_, judged}
+use Rattle.refusals.specs.declared.Refusal.the-variants.{NotLive, BrokenRule}
+use Rattle.refusals.specs.declared.Verdict.{Verdict}
+use Rattle.refusals.specs.declared.Verdict.the-variants.{Granted as granted, Refused as refused}
 pub use Rattle.ring.specs.declared.Answered.{Answered}
 
 -- 22, 15

@@ -10,13 +10,14 @@ use lib.ListN.{length, take, drop}
 use Rattle.basis.specs.Choice.{pick, bit}
 use Rattle.basis.specs.Count.{weigh, tally, All}
 use Rattle.lightpath.specs.declared.Circuit.{Circuit}
-use Rattle.channels.specs.Slot.{held}
+use Rattle.slots.specs.Slot.{held}
 use Rattle.channels.specs.Channels.{at, circuits, numbered, whereIs, circuitOf}
 use Rattle.moves.specs.declared.Move.{Move}
-use Rattle.rules.specs.Ports.{limitOf, portsAt, sends, receives}
+use Rattle.ports.specs.Ports.{limitOf, portsAt}
+use Rattle.usage.specs.Usage.{sends, receives}
 use Rattle.rules.specs.Rules.{carried}
 use Rattle.assign.specs.Assigned.{assignedOf}
-use Rattle.assign.specs.Kept.{moved, Names}
+use Rattle.steps.specs.Kept.{moved, Names}
 use Rattle.ring.specs.Table.{RingTable, meetsRules}
 use Rattle.ring.specs.Opening.{Opening, Opened}
 use Rattle.ring.specs.Answer.{refusal, openingAnswer}

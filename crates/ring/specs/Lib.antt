@@ -1,6 +1,5 @@
 -- The definitions of the ring table: its causes of refusal, its calls, their answers in numbers, and demand 3.
 pub mod Table
-pub mod Refusal
 pub mod Making
 pub mod Opening
 pub mod Closing

@@ -5,9 +5,12 @@ use mathlib.Core.List.{List, [], _∷_}
 use lib.Dec.{eqb, leb}
 use lib.ListN.{length}
 use Rattle.basis.specs.Count.{total}
-use Rattle.rules.specs.Ports.{eachAtMost}
+use Rattle.ports.specs.Ports.{eachAtMost}
 use Rattle.ring.specs.Table.{blankTable, freshTable}
-use Rattle.ring.specs.Refusal.{Verdict, granted, refused, NodeCount, PortCount, PortSum, Cause, _if_, judged}
+use Rattle.refusals.specs.Refusal.{Cause, _if_, judged}
+use Rattle.refusals.specs.declared.Refusal.the-variants.{NodeCount, PortCount, PortSum}
+use Rattle.refusals.specs.declared.Verdict.{Verdict}
+use Rattle.refusals.specs.declared.Verdict.the-variants.{Granted as granted, Refused as refused}
 pub use Rattle.ring.specs.declared.Answered.{Answered}
 
 -- some k_i above 64; K above 192

@@ -10,13 +10,18 @@ use Rattle.channels.specs.Channels.{live}
 use Rattle.moves.specs.Records.{none}
 use Rattle.moves.specs.Lent.{blanks, written}
 use Rattle.moves.specs.declared.Move.{Move}
-use Rattle.rules.specs.Ports.{limitOf, freeTransmitter, freeReceiver}
-use Rattle.assign.specs.Survey.{surveyOf}
-use Rattle.assign.specs.declared.seen.Survey.{Survey}
+use Rattle.ports.specs.Ports.{limitOf}
+use Rattle.usage.specs.Usage.{freeTransmitter, freeReceiver}
+use Rattle.survey.specs.Survey.{surveyOf}
+use Rattle.survey.specs.declared.Survey.{Survey}
 use Rattle.assign.specs.Assigned.{assignedOf}
 use Rattle.assign.specs.declared.Assigned.{Assigned}
 use Rattle.ring.specs.Table.{RingTable, meetsRules, withChannels}
-use Rattle.ring.specs.Refusal.{Refusal, Verdict, granted, refused, OffRing, SameNode, NumberLive, NoTransmitter, NoReceiver, ShortList, BrokenRule, Cause, _if_, judged}
+use Rattle.refusals.specs.Refusal.{Cause, _if_, judged}
+use Rattle.refusals.specs.declared.Refusal.{Refusal}
+use Rattle.refusals.specs.declared.Refusal.the-variants.{OffRing, SameNode, NumberLive, NoTransmitter, NoReceiver, ShortList, BrokenRule}
+use Rattle.refusals.specs.declared.Verdict.{Verdict}
+use Rattle.refusals.specs.declared.Verdict.the-variants.{Granted as granted, Refused as refused}
 pub use Rattle.ring.specs.declared.Opening.{Opening}
 pub use Rattle.ring.specs.declared.Opening.the-variants.{Taken as taken, Refused as notOpened}
 pub use Rattle.ring.specs.declared.Opened.{Opened}

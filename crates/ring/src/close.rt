@@ -5,9 +5,9 @@ ghost use mathlib.Core.Bool.{true};
 ghost use Rattle.ring.specs.Table.{meetsRules};
 ghost use Rattle.ring.specs.Closing.{closeOf};
 use crate::Answered;
-use crate::Refusal;
 use crate::RingTable;
-use crate::Verdict;
+use refusals::Refusal;
+use refusals::Verdict;
 
 impl RingTable {
     // A closing of a table that meets the ring rules.

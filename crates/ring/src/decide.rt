@@ -3,21 +3,22 @@
 ghost use mathlib.Core.Path.{_≡_};
 ghost use mathlib.Core.Bool.{true, _&&_, not};
 ghost use Rattle.lightpath.specs.Circuit.{onRing};
-ghost use Rattle.rules.specs.Ports.{limitOf};
-ghost use Rattle.assign.specs.Survey.{surveyOf};
-ghost use Rattle.assign.specs.Assigned.{assignedOf, Ready};
+ghost use Rattle.ports.specs.Ports.{limitOf};
+ghost use Rattle.survey.specs.Survey.{surveyOf};
+ghost use Rattle.assign.specs.Assigned.{assignedOf};
+ghost use Rattle.steps.specs.Steps.{Ready};
 ghost use Rattle.ring.specs.Table.{meetsRules};
-ghost use Rattle.ring.specs.Refusal.{judged};
+ghost use Rattle.refusals.specs.Refusal.{judged};
 ghost use Rattle.ring.specs.Opening.{surveyed, requestCauses, openCauses, served, refusing, decideOf};
 use crate::Decision;
 use crate::Opened;
 use crate::Opening;
-use crate::Refusal;
 use crate::RingTable;
-use crate::Verdict;
-use assign::Survey;
 use lightpath::Circuit;
 use moves::Moves;
+use refusals::Refusal;
+use refusals::Verdict;
+use survey::Survey;
 
 // Whether an end of the circuit is not on the ring.
 fn off_ring(nodes: u8, circuit: Circuit) -> bool
@@ -46,10 +47,10 @@ impl RingTable {
         if 0 < seen.numbered {
             return Verdict::Refused(Refusal::NumberLive);
         }
-        if !rules::port_free(ports, circuit.source, seen.sent) {
+        if !ports::port_free(ports, circuit.source, seen.sent) {
             return Verdict::Refused(Refusal::NoTransmitter);
         }
-        if !rules::port_free(ports, circuit.destination, seen.received) {
+        if !ports::port_free(ports, circuit.destination, seen.received) {
             return Verdict::Refused(Refusal::NoReceiver);
         }
         Verdict::Granted
@@ -116,8 +117,8 @@ impl RingTable {
         let nodes = self.nodes;
         let ports = self.ports;
         let channels = self.channels;
-        let limit = rules::place_limit(ports);
-        let seen = assign::survey_places(nodes, limit, channels, circuit);
+        let limit = ports::place_limit(ports);
+        let seen = survey::survey_places(nodes, limit, channels, circuit);
         let verdict = self.open_verdict(circuit, lent, seen);
         match verdict {
             Verdict::Granted => self.serve(circuit, limit, seen),

@@ -8,46 +8,19 @@ mod make;
 
 ghost use mathlib.Core.Path.{_≡_};
 ghost use Rattle.ring.specs.Table.{meetsRules, blankTable};
-ghost use Rattle.ring.specs.Refusal.{numberOf};
-ghost use Rattle.rules.specs.Ports.{wavelengths};
+ghost use Rattle.ports.specs.Ports.{wavelengths};
 use channels::Channel;
 use lightpath::Place;
 use moves::Move;
 use moves::Moves;
+use refusals::Refusal;
+use refusals::Verdict;
 
 // A ring of so many nodes, the ports of each (those beyond the last node zero), and what stands at its places.
 pub struct RingTable {
     pub nodes: u8,
     pub ports: [u8; 64],
     pub channels: [Channel; 128],
-}
-
-// Why a call is refused. `refusal_number` gives document 01's number of each.
-pub enum Refusal {
-    NodeCount,
-    PortCount,
-    PortSum,
-    OffRing,
-    SameNode,
-    NumberLive,
-    NoTransmitter,
-    NoReceiver,
-    NotLive,
-    NoWavelength,
-    NoDirection,
-    ShortList,
-    ShortBuffer,
-    BrokenRule,
-    CutShort,
-    BadField,
-    TrailingBytes,
-    BrokenForm,
-}
-
-// Whether a request goes ahead.
-pub enum Verdict {
-    Granted,
-    Refused(Refusal),
 }
 
 // The answer to an opening: the place taken, the number of moves and of pairs tested; or the refusal.
@@ -80,32 +53,6 @@ pub struct Answered {
     pub verdict: Verdict,
 }
 
-// Document 01's number of a refusal.
-pub fn refusal_number(refusal: Refusal) -> u8
-    ensures { λ r. ⌜ r ≡ numberOf refusal ⌝ }
-{
-    match refusal {
-        Refusal::NodeCount => 1,
-        Refusal::PortCount => 2,
-        Refusal::PortSum => 3,
-        Refusal::OffRing => 10,
-        Refusal::SameNode => 11,
-        Refusal::NumberLive => 12,
-        Refusal::NoTransmitter => 13,
-        Refusal::NoReceiver => 14,
-        Refusal::NotLive => 15,
-        Refusal::NoWavelength => 16,
-        Refusal::NoDirection => 17,
-        Refusal::ShortList => 20,
-        Refusal::ShortBuffer => 21,
-        Refusal::BrokenRule => 22,
-        Refusal::CutShort => 30,
-        Refusal::BadField => 31,
-        Refusal::TrailingBytes => 32,
-        Refusal::BrokenForm => 33,
-    }
-}
-
 impl RingTable {
     // The blank table, all zeros.
     pub fn blank() -> RingTable
@@ -133,6 +80,6 @@ impl RingTable {
         ensures { λ r. ⌜ r ≡ wavelengths (self .ports) ⌝ }
     {
         let ports = self.ports;
-        rules::wavelengths(ports)
+        ports::wavelengths(ports)
     }
 }

@@ -6,12 +6,12 @@ ghost use mathlib.Core.List.{_++_};
 ghost use Prim.Native.Nat.{_-_, _≤_};
 ghost use lib.Dec.{eqb, leb};
 ghost use lib.ListN.{length, replicate};
-ghost use Rattle.ring.specs.Refusal.{judged};
+ghost use Rattle.refusals.specs.Refusal.{judged};
 ghost use Rattle.ring.specs.Making.{portCauses, makeOf};
 use crate::Answered;
-use crate::Refusal;
 use crate::RingTable;
-use crate::Verdict;
+use refusals::Refusal;
+use refusals::Verdict;
 
 // The port counts of a list of at most 64, and zeros beyond.
 fn port_fields(ports: &[u8]) -> [u8; 64]
@@ -44,10 +44,10 @@ fn node_count_holds(nodes: u8, ports: &[u8]) -> bool
 fn ports_verdict(fields: [u8; 64]) -> Verdict
     ensures { λ r. ⌜ r ≡ judged (portCauses fields) ⌝ }
 {
-    if !rules::counts_hold(fields) {
+    if !ports::counts_hold(fields) {
         return Verdict::Refused(Refusal::PortCount);
     }
-    if 192 < rules::port_total(fields) {
+    if 192 < ports::port_total(fields) {
         return Verdict::Refused(Refusal::PortSum);
     }
     Verdict::Granted

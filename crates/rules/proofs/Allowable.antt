@@ -13,7 +13,8 @@ use Rattle.basis.proofs.Bools.{and-both, bit-eq, bit-ne}
 use Rattle.lightpath.specs.Circuit.{joins}
 use Rattle.lightpath.specs.declared.Circuit.{Circuit}
 use Rattle.channels.specs.Channels.{Channels, circuits, numbered}
-use Rattle.rules.specs.Ports.{portsAt, sends, receives}
+use Rattle.ports.specs.Ports.{portsAt}
+use Rattle.usage.specs.Usage.{sends, receives}
 use Rattle.rules.proofs.Rules.{PortsHold, Rules}
 
 -- the circuit c joins two nodes of the ring, its number is not live, and its ports are free

@@ -12,12 +12,13 @@ use Rattle.basis.proofs.Sums.{sum-le, by-nodes}
 use Rattle.lightpath.specs.Circuit.{adjacent}
 use Rattle.lightpath.specs.declared.Circuit.{Circuit}
 use Rattle.lightpath.proofs.Links.{OnRing}
-use Rattle.channels.specs.Slot.{isUnlit}
-use Rattle.channels.specs.declared.Slot.{Slot}
-use Rattle.channels.specs.declared.Slot.the-variants.{Unlit as unlit, Alone as alone, Shared as shared}
+use Rattle.slots.specs.Slot.{isUnlit}
+use Rattle.slots.specs.declared.Slot.{Slot}
+use Rattle.slots.specs.declared.Slot.the-variants.{Unlit as unlit, Alone as alone, Shared as shared}
 use Rattle.channels.specs.Channels.{allHeld}
 use Rattle.channels.specs.Nonsharing.{aloneFrom}
-use Rattle.rules.specs.Ports.{limitOf, sends}
+use Rattle.ports.specs.Ports.{limitOf}
+use Rattle.usage.specs.Usage.{sends}
 use Rattle.rules.proofs.Rules.{PortsHold}
 
 -- the pairs that share a place; p is their number, and q that of the circuits alone at theirs

@@ -13,9 +13,9 @@ use Rattle.basis.proofs.Bools.{and-left, and-right, and-both, fails}
 use Rattle.basis.proofs.Branch.{and-true}
 use Rattle.lightpath.specs.declared.Circuit.{Circuit}
 use Rattle.channels.specs.Channels.{Channels, at, circuits}
-use Rattle.channels.specs.Gathering.{Gathers}
-use Rattle.rules.specs.Ports.{limitOf}
-use Rattle.rules.specs.Rules.{limits, sized as sizedTest, unlitFrom, ends, portsHold, shares, spareZero, ringRules}
+use Rattle.gather.specs.Gathering.{Gathers}
+use Rattle.ports.specs.Ports.{limitOf, limits, spareZero}
+use Rattle.rules.specs.Rules.{sized as sizedTest, unlitFrom, ends, portsHold, shares, ringRules}
 
 -- within the limits a ring has nodes
 pub some-nodes : (N : ℕ) (ks : List ℕ) (r : Bool) → r ≡ limits N ks → r ≡ true → 0 < N

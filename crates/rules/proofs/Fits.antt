@@ -16,9 +16,9 @@ use Rattle.lightpath.specs.Place.{directionOf}
 use Rattle.lightpath.specs.Circuit.{joins, uses, canShare}
 use Rattle.lightpath.specs.declared.Circuit.{Circuit}
 use Rattle.lightpath.proofs.Share.{can-swap, share-links}
-use Rattle.channels.specs.Slot.{held, together, without}
-use Rattle.channels.specs.declared.Slot.{Slot}
-use Rattle.channels.specs.declared.Slot.the-variants.{Unlit as unlit, Alone as alone, Shared as shared}
+use Rattle.slots.specs.Slot.{held, together, without}
+use Rattle.slots.specs.declared.Slot.{Slot}
+use Rattle.slots.specs.declared.Slot.the-variants.{Unlit as unlit, Alone as alone, Shared as shared}
 use Rattle.channels.specs.Channels.{Channels, at}
 use Rattle.channels.proofs.Places.{none-there}
 use Rattle.rules.specs.Rules.{fits, carried}

@@ -10,9 +10,9 @@ use borrow.Author.Tests.{eq-eqb, le-leb}
 use Rattle.basis.specs.Count.{total}
 use Rattle.basis.proofs.Bools.{and-both}
 use Rattle.basis.proofs.Sums.{total-append, total-zeros}
-use Rattle.channels.specs.declared.Slot.the-variants.{Unlit as unlit}
+use Rattle.slots.specs.declared.Slot.the-variants.{Unlit as unlit}
 use Rattle.channels.specs.Channels.{unlitChannel, unlitChannels, at}
-use Rattle.rules.specs.Ports.{eachAtMost}
+use Rattle.ports.specs.Ports.{eachAtMost}
 use Rattle.rules.proofs.Rules.{Rules}
 
 -- zeros after the port counts are within every bound

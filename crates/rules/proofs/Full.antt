@@ -15,12 +15,12 @@ use Rattle.lightpath.specs.Place.{directionOf}
 use Rattle.lightpath.specs.declared.Circuit.{Circuit}
 use Rattle.lightpath.proofs.Links.{OnRing, on-ring}
 use Rattle.lightpath.proofs.Share.{can-adjacent}
-use Rattle.channels.specs.Slot.{held, isUnlit}
-use Rattle.channels.specs.declared.Slot.{Slot}
-use Rattle.channels.specs.declared.Slot.the-variants.{Unlit as unlit, Alone as alone, Shared as shared}
+use Rattle.slots.specs.Slot.{held, isUnlit}
+use Rattle.slots.specs.declared.Slot.{Slot}
+use Rattle.slots.specs.declared.Slot.the-variants.{Unlit as unlit, Alone as alone, Shared as shared}
 use Rattle.channels.specs.Channels.{Channels, at, slots, allHeld}
 use Rattle.channels.proofs.Nonsharing.{below-length, below-at}
-use Rattle.rules.specs.Ports.{limitOf}
+use Rattle.ports.specs.Ports.{limitOf}
 use Rattle.rules.specs.Rules.{fits}
 use Rattle.rules.proofs.Rules.{Rules, limits-hold}
 use Rattle.rules.proofs.Fits.{couple, alone-joins}

@@ -13,10 +13,10 @@ use Rattle.lightpath.specs.Place.{placeOf}
 use Rattle.lightpath.specs.declared.Direction.{Direction}
 use Rattle.lightpath.specs.declared.Direction.the-variants.{Clockwise as clockwise, Counterclockwise as counterclockwise}
 use Rattle.lightpath.specs.declared.Circuit.{Circuit}
-use Rattle.channels.specs.Slot.{isUnlit, isAlone}
-use Rattle.channels.specs.declared.Slot.{Slot}
-use Rattle.channels.specs.declared.Slot.the-variants.{Unlit as unlit, Alone as alone, Shared as shared}
-use Rattle.rules.specs.Ports.{wavelengths}
+use Rattle.slots.specs.Slot.{isUnlit, isAlone}
+use Rattle.slots.specs.declared.Slot.{Slot}
+use Rattle.slots.specs.declared.Slot.the-variants.{Unlit as unlit, Alone as alone, Shared as shared}
+use Rattle.ports.specs.Ports.{wavelengths}
 use Rattle.rules.proofs.Counting.{sharing, Full, few-share}
 
 -- the contents of the places of one direction, by wavelength

@@ -1,5 +1,5 @@
 -- The laws of the ring rules: the test as facts, what fits at a place, what an opening needs, and the paper's counting; and the loops
--- that test port counts, numbers and ports in use.
+-- that test numbers and ports in use.
 pub mod Rules
 pub mod Fits
 pub mod Allowable
@@ -8,7 +8,6 @@ pub mod Pair
 pub mod Lane
 pub mod Full
 pub mod Decided
-pub mod Counts
 pub mod Distinct
 pub mod InUse
 pub mod Fresh

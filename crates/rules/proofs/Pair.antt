@@ -19,8 +19,8 @@ use Rattle.basis.proofs.Weigh.{weigh-append}
 use Rattle.lightpath.specs.Circuit.{adjacent}
 use Rattle.lightpath.specs.declared.Circuit.{Circuit}
 use Rattle.lightpath.proofs.Links.{OnRing}
-use Rattle.channels.specs.declared.Slot.{Slot}
-use Rattle.channels.specs.declared.Slot.the-variants.{Unlit as unlit, Alone as alone, Shared as shared}
+use Rattle.slots.specs.declared.Slot.{Slot}
+use Rattle.slots.specs.declared.Slot.the-variants.{Unlit as unlit, Alone as alone, Shared as shared}
 use Rattle.channels.specs.declared.Standing.{Standing}
 use Rattle.channels.specs.Channels.{allHeld}
 use Rattle.channels.specs.Nonsharing.{aloneFrom, adjacentPair}

@@ -12,10 +12,11 @@ use Rattle.basis.specs.Count.{total, distinct}
 use Rattle.basis.proofs.Bools.{and-left, and-right, and-both}
 use Rattle.basis.proofs.Search.{every-at, at-every}
 use Rattle.lightpath.specs.declared.Circuit.{Circuit}
-use Rattle.channels.specs.Slot.{isUnlit}
+use Rattle.slots.specs.Slot.{isUnlit}
 use Rattle.channels.specs.Channels.{Channels, at, circuits}
-use Rattle.rules.specs.Ports.{limitOf, sends, receives}
-use Rattle.rules.specs.Rules.{limits, sized, ends, portsHold, shares, fits, spareZero, ringRules}
+use Rattle.ports.specs.Ports.{limitOf, limits, spareZero}
+use Rattle.usage.specs.Usage.{sends, receives}
+use Rattle.rules.specs.Rules.{sized, ends, portsHold, shares, fits, ringRules}
 
 -- no node sends or receives more than its port count; node 1 has the first
 abbrev pub PortsHold : List ℕ → List Circuit → Type 0

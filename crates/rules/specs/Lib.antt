@@ -1,4 +1,3 @@
--- The definitions of the ring rules: ports and wavelengths, the rules, and circuits counted by node.
-pub mod Ports
+-- The definitions of the ring rules, and circuits counted by node.
 pub mod Rules
-pub mod Usage
+pub mod Tallies

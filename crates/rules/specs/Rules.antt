@@ -4,30 +4,23 @@ use Prim.Native.Nat.{ℕ, suc}
 use mathlib.Core.Bool.{Bool, true, _&&_, _||_}
 use mathlib.Core.List.{List, [], _∷_}
 use lib.Dec.{eqb, leb, ltb}
-use lib.ListN.{length, drop}
+use lib.ListN.{length}
 use Rattle.basis.specs.Choice.{bit}
-use Rattle.basis.specs.Count.{weigh, total, distinct}
+use Rattle.basis.specs.Count.{weigh, distinct}
 use Rattle.basis.specs.Search.{everyBelow}
 use Rattle.lightpath.specs.Place.{directionOf}
 use Rattle.lightpath.specs.Circuit.{joins, uses, canShare}
 use Rattle.lightpath.specs.declared.Circuit.{Circuit}
-use Rattle.channels.specs.Slot.{held, isUnlit}
-use Rattle.channels.specs.declared.Slot.{Slot}
-use Rattle.channels.specs.declared.Slot.the-variants.{Unlit as unlit, Alone as alone, Shared as shared}
+use Rattle.slots.specs.Slot.{held, isUnlit}
+use Rattle.slots.specs.declared.Slot.{Slot}
+use Rattle.slots.specs.declared.Slot.the-variants.{Unlit as unlit, Alone as alone, Shared as shared}
 use Rattle.channels.specs.Channels.{Channels, at, circuits}
-use Rattle.rules.specs.Ports.{limitOf, eachAtMost, sends, receives}
-
--- N from 3 to 64, k_i from 0 to 64, K at most 192
-abbrev pub limits : ℕ → List ℕ → Bool
-limits N ks = leb 3 N && leb N 64 && eachAtMost 64 ks && leb (total ks) 192
+use Rattle.ports.specs.Ports.{limitOf, limits, spareZero}
+use Rattle.usage.specs.Usage.{sends, receives}
 
 -- 64 port fields and 128 places
 abbrev pub sized : List ℕ → Channels → Bool
 sized ks t = eqb (length ks) 64 && eqb (length t) 128
-
--- unused fields are zero: the port counts beyond N
-abbrev pub spareZero : ℕ → List ℕ → Bool
-spareZero N ks = eqb (total (drop N ks)) 0
 
 -- places from m up stay unlit
 abbrev pub unlitFrom : ℕ → Channels → Bool

@@ -5,13 +5,13 @@ ghost use mathlib.Core.Bool.{_||_};
 ghost use Prim.Native.Nat.{_<_};
 ghost use lib.Dec.{ltb};
 ghost use Rattle.basis.specs.Search.{everyBelow};
-ghost use Rattle.channels.specs.Slot.{isUnlit};
+ghost use Rattle.slots.specs.Slot.{isUnlit};
 ghost use Rattle.channels.specs.Channels.{at};
 ghost use Rattle.lightpath.specs.Circuit.{joins};
 ghost use Rattle.rules.specs.Rules.{unlitFrom, ends, shares};
 use channels::Channel;
-use channels::Slot;
 use lightpath::Place;
+use slots::Slot;
 
 // Whether a place is below a limit or unlit.
 fn below_or_unlit(limit: usize, place: usize, slot: Slot) -> bool

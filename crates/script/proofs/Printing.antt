@@ -7,7 +7,7 @@ use lib.ListN.{length}
 use lib.Seq.{take-all}
 use Rattle.moves.specs.Records.{listed}
 use Rattle.moves.specs.declared.Moves.{Moves}
-use Rattle.ring.specs.declared.Verdict.{Verdict}
+use Rattle.refusals.specs.declared.Verdict.{Verdict}
 use Rattle.ring.specs.declared.Opening.{Opening}
 use Rattle.text.specs.Put.{Put, Room}
 use Rattle.text.specs.Decimal.{decimal}

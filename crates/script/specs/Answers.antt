@@ -3,9 +3,9 @@ use Prim.Native.Nat.{ℕ, _+_, _≤_}
 use Prim.Native.String.{String}
 use mathlib.Core.List.{List, [], _∷_, _++_}
 use Rattle.moves.specs.declared.Move.{Move}
-use Rattle.ring.specs.Refusal.{numberOf}
-use Rattle.ring.specs.declared.Verdict.{Verdict}
-use Rattle.ring.specs.declared.Verdict.the-variants.{Granted as granted, Refused as refused}
+use Rattle.refusals.specs.Refusal.{numberOf}
+use Rattle.refusals.specs.declared.Verdict.{Verdict}
+use Rattle.refusals.specs.declared.Verdict.the-variants.{Granted as granted, Refused as refused}
 use Rattle.ring.specs.declared.Opening.{Opening}
 use Rattle.ring.specs.declared.Opening.the-variants.{Taken as taken, Refused as notOpened}
 use Rattle.text.specs.Bytes.{bytes}

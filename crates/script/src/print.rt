@@ -3,15 +3,15 @@ ghost use Prim.Native.Nat.{_+_, _≤_};
 ghost use mathlib.Core.List.{[], _∷_, _++_};
 ghost use lib.ListN.{length};
 ghost use Rattle.text.specs.Bytes.{bytes};
-ghost use Rattle.ring.specs.Refusal.{numberOf};
+ghost use Rattle.refusals.specs.Refusal.{numberOf};
 ghost use Rattle.moves.specs.Records.{listed};
 ghost use Rattle.script.specs.Answers.{Printed, piece, lineOf, lineRefused, ringLine, closeLine, openLine, moveLine, moveLines};
 use lightpath::Place;
 use moves::Move;
 use moves::Moves;
+use refusals::Refusal;
+use refusals::Verdict;
 use ring::Opening;
-use ring::Refusal;
-use ring::Verdict;
 
 // Words and a number.
 fn put_piece(out: &mut [u8], at: usize, words: &[u8], n: u32) -> usize
@@ -78,7 +78,7 @@ fn put_refusal(out: &mut [u8], at: usize, words: &[u8], refusal: Refusal) -> usi
     requires { ⌜ at + length (now words) + 11 ≤ length (now out) ⌝ }
     ensures { λ r. ⌜ Printed (length (now (words .entry)) + 11) (now (out .entry)) at (piece (now (words .entry)) (numberOf refusal) ++ bytes "\n") (now (out .exit)) r ⌝ }
 {
-    let number = ring::refusal_number(refusal);
+    let number = refusals::refusal_number(refusal);
     put_last(out, at, words, number as u32)
 }
 

@@ -1,13 +1,12 @@
 // One line of a script, run and answered.
-ghost use Rattle.script.specs.Desk.{Runs, Ended, runRing, runOpen, runClose, runLine};
-ghost use Rattle.script.specs.Desk.{refuse as Desk·refuse};
+ghost use Rattle.script.specs.Desk.{Runs, Ended, runRing, runOpen, runClose, runLine, refuse as Desk·refuse};
 use crate::Desk;
 use crate::Ran;
 use crate::print;
 use lightpath::Circuit;
 use line::Request;
+use refusals::Verdict;
 use ring::RingTable;
-use ring::Verdict;
 
 // Prints `line refused`, and nothing changes.
 fn refuse(desk: Desk, out: &mut [u8], at: usize) -> Ran

@@ -1,9 +1,9 @@
 -- `assign::plan_for` meets its contract. Assumes nothing.
 use mathlib.Core.Path.{_≡_}
 use lib.ListN.{length}
-use Rattle.assign.proofs.Candidates.{movable}
-use Rattle.assign.proofs.Seek.{array-length}
-use Rattle.assign.proofs.Survey.{seen-join, seen-none, plan-joins, plan-lights, plan-moves}
+use Rattle.basis.proofs.Arrays.{array-length}
+use Rattle.survey.proofs.Seen.{seen-join, seen-none}
+use Rattle.assign.proofs.Chosen.{plan-joins, plan-lights, plan-moves, movable}
 use native.Mathlib.Omega.{arith}
 use borrow.Author.Needs.{needs}
 use Rattle.assign.proofs.plan_for.Statement.{statement}

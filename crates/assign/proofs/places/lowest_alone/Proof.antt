@@ -2,7 +2,7 @@
 use Prim.Native.Nat.{_-_, _≤_}
 use mathlib.Core.Bool.{false, _&&_}
 use Rattle.lightpath.specs.Place.{directionOf, sameDirection}
-use Rattle.channels.specs.Slot.{isAlone}
+use Rattle.slots.specs.Slot.{isAlone}
 use Rattle.channels.specs.Channels.{at}
 use Rattle.basis.proofs.Scan.{Passed, scan}
 use borrow.Author.Needs.{needs}

@@ -1,7 +1,7 @@
 -- `decode::map::is_lit` meets its contract. Assumes nothing.
 use borrow.Author.Needs.{needs}
 use Rattle.basis.proofs.Branch.{branch}
-use Rattle.channels.specs.Lit.{bitOf, litBit}
+use Rattle.lit_words.specs.Lit.{bitOf, litBit}
 use Rattle.decode.proofs.map.is_lit.Statement.{statement}
 use Rattle.decode.proofs.map.is_lit.Tie as tie
 

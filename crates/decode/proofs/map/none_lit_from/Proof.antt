@@ -4,7 +4,7 @@ use mathlib.Core.Bool.{true, _||_, not}
 use lib.Dec.{ltb}
 use borrow.Author.Needs.{needs}
 use Rattle.basis.proofs.Scan.{Passed, scan}
-use Rattle.channels.specs.Lit.{litBit}
+use Rattle.lit_words.specs.Lit.{litBit}
 use Rattle.form.specs.Reading.{noneLitFrom}
 use Rattle.decode.proofs.map.none_lit_from.Statement.{statement}
 use Rattle.decode.proofs.map.none_lit_from.Tie as tie

@@ -1,7 +1,7 @@
 -- `decode::places::read_records` meets its contract. Assumes nothing.
 use Prim.Native.Nat.{_-_, _≤_}
 use borrow.Author.Needs.{needs}
-use Rattle.channels.specs.Lit.{litBit}
+use Rattle.lit_words.specs.Lit.{litBit}
 use Rattle.decode.proofs.Listing.{Listing, listing}
 use Rattle.decode.proofs.places.read_records.Statement.{statement}
 use Rattle.decode.proofs.places.read_records.Tie as tie

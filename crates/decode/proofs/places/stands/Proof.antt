@@ -1,7 +1,7 @@
 -- `decode::places::stands` meets its contract. Assumes nothing.
 use mathlib.Core.Path.{refl}
 use borrow.Author.Needs.{needs}
-use Rattle.channels.specs.Lit.{bitOf}
+use Rattle.lit_words.specs.Lit.{bitOf}
 use Rattle.decode.proofs.places.stands.Statement.{statement}
 use Rattle.decode.proofs.places.stands.Tie as tie
 

@@ -4,7 +4,7 @@ use mathlib.Core.Bool.{true, _||_}
 use lib.Dec.{ltb}
 use borrow.Author.Needs.{needs}
 use Rattle.basis.proofs.Scan.{Passed, scan}
-use Rattle.channels.specs.Slot.{isUnlit}
+use Rattle.slots.specs.Slot.{isUnlit}
 use Rattle.channels.specs.Channels.{at}
 use Rattle.rules.proofs.places.unlit_from.Statement.{statement}
 use Rattle.rules.proofs.places.unlit_from.Tie as tie

@@ -1,0 +1,36 @@
+-- The lit places of a table, by its two words. Assumes nothing.
+use Prim.Native.Nat.{ℕ, _+_}
+use mathlib.Core.Path.{_≡_, refl, sym, ap, _∙_}
+use mathlib.Core.Bool.{not}
+use mathlib.Core.List.{[], _∷_}
+use lib.ListN.{length}
+use Rattle.basis.specs.Choice.{bit}
+use Rattle.basis.specs.Count.{countBelow}
+use Rattle.basis.specs.Search.{firstBelow}
+use Rattle.basis.proofs.Below.{count-same, first-same}
+use Rattle.slots.specs.Slot.{isLit, isUnlit}
+use Rattle.slots.specs.declared.Slot.{Slot}
+use Rattle.slots.specs.declared.Slot.the-variants.{Unlit as unlit, Alone as alone, Shared as shared}
+use Rattle.lit_words.specs.Lit.{litBit}
+use Rattle.lit_words.proofs.Words.{words-say}
+use Rattle.channels.specs.Channels.{Channels, at, litPlaces, litAt, litOf}
+
+-- a place is unlit when it is not lit
+pub unlit-not : (s : Slot) → not (isLit s) ≡ isUnlit s
+unlit-not unlit = refl
+unlit-not (alone a) = refl
+unlit-not (shared a b) = refl
+
+-- the first place that is unlit by the words is the table's
+pub unlit-words : (t : Channels) → firstBelow 128 (λ p. not (litBit (litOf t) p)) ≡ firstBelow 128 (λ p. isUnlit (at t p))
+unlit-words t =
+    first-same 128 (λ p. not (litBit (litOf t) p)) (λ p. isUnlit (at t p)) (λ p h. ap not (words-say (litAt t) p h) ∙ unlit-not (at t p))
+
+-- the lit places, counted by place
+lit-all : (t : Channels) → countBelow (length t) (litAt t) ≡ litPlaces t
+lit-all [] = refl
+lit-all (ch ∷ t) = ap (λ (n : ℕ). bit (isLit (ch .slot)) + n) (lit-all t)
+
+-- the words count the lit places of the table
+pub lit-places : (t : Channels) → length t ≡ 128 → countBelow 128 (litBit (litOf t)) ≡ litPlaces t
+lit-places t e = count-same 128 (litBit (litOf t)) (litAt t) (words-say (litAt t)) ∙ ap (λ (n : ℕ). countBelow n (litAt t)) (sym e) ∙ lit-all t

@@ -1,0 +1,2 @@
+-- How a loop over the places gathers their circuits.
+pub mod Gathering

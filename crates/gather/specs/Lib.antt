@@ -1,0 +1,2 @@
+-- A list in an array.
+pub mod Gathering

@@ -1,0 +1,3 @@
+-- The laws of words of bits, and of the two words of lit places.
+pub mod Bits
+pub mod Words

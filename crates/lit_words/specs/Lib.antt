@@ -1,0 +1,2 @@
+-- The lit places as two words.
+pub mod Lit

@@ -1,0 +1,2 @@
+-- The pair that step 3 finds.
+pub mod Pairs

@@ -1,0 +1,49 @@
+-- The tests on port counts, node by node. Assumes nothing.
+use Prim.Native.Nat.{ℕ, zero, suc, _-_, _≤_, _<_}
+use mathlib.Core.Path.{_≡_, refl, sym, _∙_}
+use mathlib.Core.Bool.{Bool, true, false}
+use mathlib.Core.List.{List, [], _∷_}
+use native.Mathlib.Decide.{ℕ-discrete}
+use native.Mathlib.Omega.{arith}
+use lib.Dec.{eqb, leb}
+use lib.ListN.{length, getD, take, drop, List·getD-eq-default}
+use borrow.Author.Tests.{eq-eqb, ne-eqb}
+use Rattle.basis.specs.Count.{total}
+use Rattle.basis.specs.Search.{everyBelow}
+use Rattle.basis.proofs.Scan.{Passed, scan-all, scan-fail}
+use Rattle.basis.proofs.Fold.{total-parts}
+use Rattle.ports.specs.Ports.{eachAtMost, portsAt}
+
+-- the test of every count, position by position
+each-below : (m : ℕ) (ks : List ℕ) → eachAtMost m ks ≡ everyBelow (length ks) (λ j. leb (getD ks j 0) m)
+each-below m [] = refl
+each-below m (k ∷ ks) = rw (each-below m ks)
+
+-- every count was found within the limit
+pub each-all : (m : ℕ) (ks : List ℕ) (n i : ℕ) → Passed (λ j. leb (getD ks j 0) m) true i → length ks ≡ n → n ≤ i → true ≡ eachAtMost m ks
+each-all m ks n i h e l = scan-all (λ j. leb (getD ks j 0) m) (length ks) i h (omega arith) ∙ sym (each-below m ks)
+
+-- or one was found above it
+pub each-fail : (m : ℕ) (ks : List ℕ) (n i : ℕ) (r : Bool) → r ≡ leb (getD ks i 0) m → r ≡ false → length ks ≡ n → i < n
+    → false ≡ eachAtMost m ks
+each-fail m ks n i r e t z l = scan-fail (λ j. leb (getD ks j 0) m) (length ks) i r e t (omega arith) ∙ sym (each-below m ks)
+
+pub ruleset each = (each-all, each-fail)
+
+-- the counts beyond n are zero where the first n add up to all
+pub spare : (ks : List ℕ) (n s f : ℕ) → s ≡ total ks → f ≡ total (take n ks) → eqb s f ≡ eqb (total (drop n ks)) 0
+spare ks n s f e g = go (ℕ-discrete s f)
+  where
+    go : Dec (s ≡ f) → eqb s f ≡ eqb (total (drop n ks)) 0
+    go (yes h) = eq-eqb s f h ∙ sym (eq-eqb (total (drop n ks)) 0 (omega (arith, total-parts ks n)))
+    go (no h) = ne-eqb s f h ∙ sym (ne-eqb (total (drop n ks)) 0 (λ z. h (omega (arith, total-parts ks n))))
+
+-- the ports of a node stand one position lower
+pub ports-at : (ks : List ℕ) (node i : ℕ) → i ≡ node → (i ≡ 0 → ⊥) → getD ks (i - 1) 0 ≡ portsAt ks node
+ports-at ks zero i e n = absurd (n e)
+ports-at ks (suc j) i e n = let z : i - 1 ≡ j = omega arith in rw z
+
+-- a node beyond the list has none
+pub ports-past : (ks : List ℕ) (w node i : ℕ) → i ≡ node → length ks ≡ w → w < i → 0 ≡ portsAt ks node
+ports-past ks w zero i e z l = refl
+ports-past ks w (suc j) i e z l = sym (List·getD-eq-default ks 0 (omega arith))

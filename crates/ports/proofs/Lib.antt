@@ -1,0 +1,2 @@
+-- The loops that test port counts.
+pub mod Counts

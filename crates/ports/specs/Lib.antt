@@ -1,0 +1,2 @@
+-- Port counts and the ring rules on them.
+pub mod Ports

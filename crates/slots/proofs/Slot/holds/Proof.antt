@@ -1,0 +1,31 @@
+-- `slots::Slot::holds` meets its contract. Assumes nothing.
+use borrow.Author.Tests.{eq-eqb, ne-eqb}
+use borrow.Author.Needs.{needs}
+use Rattle.slots.proofs.Slot.holds.Statement.{statement}
+use Rattle.slots.proofs.Slot.holds.Tie as tie
+
+enum-told : tie.Need-enum-told
+enum-told c = search needs
+
+enum-known-self : tie.Need-enum-known-self
+enum-known-self c = search needs
+
+enum-known-self-2 : tie.Need-enum-known-self-2
+enum-known-self-2 c = search needs
+
+returns : tie.Need-returns
+returns c = search needs
+
+returns-2 : tie.Need-returns-2
+returns-2 c = simp (c .before .before .self .given .1)
+
+returns-3 : tie.Need-returns-3
+returns-3 c = simp (c .before .before .before .self2 .given .1, eq-eqb _ _ (c .if1 .taken))
+
+returns-4 : tie.Need-returns-4
+returns-4 c = simp (c .before .before .before .before .self2 .given .1, ne-eqb _ _ (c .before .if1 .left))
+
+pub holds-spec : {M : Type 1} → statement M
+holds-spec =
+    tie.close
+    (tie.spec enum-told enum-known-self enum-known-self-2 returns returns-2 returns-3 returns-4)

@@ -1,0 +1,2 @@
+-- What one place holds.
+pub mod Slot

@@ -1,0 +1,10 @@
+-- The laws of the steps: what sound changes keep, the five cases, the searches, the candidates, step 3's two claims, the plan, its looks;
+-- and closing.
+pub mod Sound
+pub mod Five
+pub mod Searches
+pub mod Candidates
+pub mod Step3
+pub mod Steps
+pub mod Looks
+pub mod Closing

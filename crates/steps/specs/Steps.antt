@@ -1,0 +1,96 @@
+-- 01, "Opening a circuit": steps 1 to 3, on the places t below the limit m of a ring of N nodes. Assumes nothing.
+use Prim.Native.Nat.{ℕ, suc, _≤_, _<_}
+use mathlib.Core.Bool.{Bool, _&&_}
+use mathlib.Core.List.{List, [], _∷_, _++_}
+use lib.Dec.{ltb}
+use lib.ListN.{length, getD}
+use Rattle.basis.specs.Choice.{pick}
+use Rattle.basis.specs.Search.{firstBelow, firstPlace, pairsOf}
+use Rattle.lightpath.specs.Place.{directionOf, sameDirection}
+use Rattle.lightpath.specs.declared.Direction.{Direction}
+use Rattle.lightpath.specs.Circuit.{canShare, shareDirection}
+use Rattle.lightpath.specs.declared.Circuit.{Circuit}
+use Rattle.slots.specs.Slot.{isUnlit, isAlone, firstOf}
+use Rattle.slots.specs.declared.Slot.{Slot}
+use Rattle.channels.specs.Channels.{Channels, at}
+use Rattle.channels.specs.Nonsharing.{nonsharing, standingAt, adjacentPair}
+use Rattle.channels.specs.declared.Standing.{Standing}
+use Rattle.steps.specs.Plan.{Plan, joining, lighting, oneMove, twoMoves, threeMoves}
+
+-- Step 1. Go through nonsharing circuits by rising place. The new one joins the first with which it is adjacent and can share in that
+-- place's direction.
+
+abbrev pub canJoin : ℕ → Circuit → ℕ → Slot → Bool
+canJoin N c p s = isAlone s && canShare N (directionOf p) (firstOf s) c
+
+abbrev pub joinPlace : ℕ → ℕ → Channels → Circuit → ℕ
+joinPlace N m t c = firstBelow m (λ p. canJoin N c p (at t p))
+
+-- Step 2. Otherwise it takes the lowest unlit place below 2 × W. This rule does not ask for N and c; document 02's request E6 does.
+
+abbrev pub unlitPlace : ℕ → ℕ → Channels → Circuit → ℕ
+unlitPlace N m t c = firstBelow m (λ p. isUnlit (at t p))
+
+-- Step 3. Otherwise list the nonsharing circuits by rising place, the new one last. It has no place yet and is listed at 128, nowhere.
+
+abbrev pub nowhere : ℕ
+nowhere = 128
+
+abbrev pub newcomer : Circuit → Standing
+newcomer c = record { place = nowhere; circuit = c }
+
+abbrev pub candidates : ℕ → Channels → Circuit → List Standing
+candidates m t c = nonsharing m t ++ newcomer c ∷ []
+
+-- Take pairs by first member, then second. The search stops at the first adjacent pair: how many pairs are tested before it,
+abbrev pub passed : ℕ → Channels → Circuit → ℕ
+passed m t c = firstPlace adjacentPair (pairsOf (candidates m t c))
+
+-- and that pair
+abbrev pub foundPair : ℕ → Channels → Circuit → Standing × Standing
+foundPair m t c = getD (pairsOf (candidates m t c)) (passed m t c) (newcomer c, newcomer c)
+
+-- Looks is the number of pairs tested, that one included.
+abbrev pub looks : ℕ → Channels → Circuit → ℕ
+looks m t c = suc (passed m t c)
+
+-- 3a. A member stands already in a direction in which the pair a and b can share.
+abbrev pub standsRight : ℕ → Standing → Standing → Standing → Bool
+standsRight N a b x = ltb (x .place) nowhere && canShare N (directionOf (x .place)) (a .circuit) (b .circuit)
+
+-- the lowest place of direction d whose content passes a test
+abbrev pub lowestIn : (Slot → Bool) → ℕ → Channels → Direction → ℕ
+lowestIn f m t d = firstBelow m (λ p. f (at t p) && sameDirection (directionOf p) d)
+
+-- 3b. Neither does. Let x be the nonsharing circuit at the lowest place c of direction d: that place,
+abbrev pub lowestAlone : ℕ → Channels → Direction → ℕ
+lowestAlone m t d = lowestIn isAlone m t d
+
+-- and that circuit, d being the direction in which a and b can share
+abbrev pub xOf : ℕ → ℕ → Channels → Standing → Standing → Standing
+xOf N m t a b = standingAt t (lowestAlone m t (shareDirection N (a .circuit) (b .circuit)))
+
+-- With an old member a and the new one: two moves. With old members a then b: three moves.
+abbrev pub exchanging : Circuit → Standing → Standing → Standing → ℕ → Plan
+exchanging c x a b k = pick (ltb (b .place) nowhere) (threeMoves c x a b k) (twoMoves c x a k)
+
+-- step 3 with the pair a and b, found after k looks
+abbrev pub rearranging : ℕ → ℕ → Channels → Circuit → Standing → Standing → ℕ → Plan
+rearranging N m t c a b k =
+    pick (standsRight N a b a) (oneMove c a b k)
+    (pick (standsRight N a b b) (oneMove c b a k)
+    (exchanging c (xOf N m t a b) a b k))
+
+-- the first of the steps that serves the new circuit
+abbrev pub planOf : ℕ → ℕ → Channels → Circuit → Plan
+planOf N m t c =
+    pick (ltb (joinPlace N m t c) m) (joining c (standingAt t (joinPlace N m t c)))
+    (pick (ltb (unlitPlace N m t c) m) (lighting c (unlitPlace N m t c))
+    (rearranging N m t c (foundPair m t c .0) (foundPair m t c .1) (looks m t c)))
+
+-- the paper's two claims: where neither step 1 nor step 2 finds a place, there is an adjacent pair, and a nonsharing circuit each way round
+pub record Ready (N m : ℕ) (t : Channels) (c : Circuit) : Type 0 where
+  pub nodes : 0 < N
+  pub low : m ≤ 128
+  pub pair : m ≤ joinPlace N m t c → m ≤ unlitPlace N m t c → passed m t c < length (pairsOf (candidates m t c))
+  pub lane : m ≤ joinPlace N m t c → m ≤ unlitPlace N m t c → (d : Direction) → lowestAlone m t d < m

@@ -1,0 +1,2 @@
+-- The pass over the places.
+pub mod Seen

@@ -1,0 +1,2 @@
+-- What one pass over the places finds.
+pub mod Survey
