@@ -1,5 +1,5 @@
 -- The laws of the ring table: what is refused, demand 3, and that making, opening and closing keep the ring rules; and the lending of a
--- local array.
+-- local array, and of a list that was lent.
 pub mod Live
 pub mod Causes
 pub mod Served
@@ -8,3 +8,4 @@ pub mod Closing
 pub mod Making
 pub mod Fields
 pub mod LocalArray
+mod Lending
