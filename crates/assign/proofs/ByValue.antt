@@ -22,10 +22,10 @@ use Rattle.rules.proofs.Rules.{Rules}
 use Rattle.rules.proofs.Allowable.{Allowable}
 use Rattle.steps.specs.Steps.{nowhere, joinPlace, unlitPlace, foundPair, looks, standsRight, xOf, exchanging, rearranging, planOf, Ready}
 use Rattle.steps.specs.Plan.{Plan, joining, lighting, oneMove, twoMoves, threeMoves}
-use Rattle.assign.specs.Assigned.{movesOf, changesOf, Planned, plannedOf, assignedOf}
 use Rattle.steps.specs.Kept.{Served}
 use Rattle.steps.proofs.Steps.{plan-good}
 use Rattle.steps.proofs.Looks.{looks-most}
+use Rattle.assign.specs.Assigned.{movesOf, changesOf, Planned, plannedOf, assignedOf}
 
 -- up to three moves by value are listed again as they were
 listed-moves : (ms : List Move) → length ms ≤ 3 → listed (movesOf ms) ≡ ms

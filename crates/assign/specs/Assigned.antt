@@ -4,8 +4,8 @@ use mathlib.Core.Path.{_≡_}
 use mathlib.Core.Bool.{true}
 use mathlib.Core.List.{List, [], _∷_}
 use Rattle.lightpath.specs.declared.Circuit.{Circuit}
-use Rattle.channels.specs.Channels.{Channels}
 use Rattle.slots.specs.declared.Slot.the-variants.{Unlit as unlit}
+use Rattle.channels.specs.Channels.{Channels}
 use Rattle.channels.specs.declared.Change.{Change}
 use Rattle.channels.specs.declared.Changes.{Changes}
 use Rattle.channels.specs.Change.{_gets_, puts, oneChange, twoChanges, threeChanges}

@@ -5,9 +5,9 @@ ghost use Prim.Native.Nat.{_<_};
 ghost use Rattle.channels.specs.Channels.{whereIs};
 ghost use Rattle.channels.specs.Change.{Placed};
 ghost use Rattle.steps.specs.Steps.{planOf, Ready};
+ghost use Rattle.steps.specs.Closing.{closed};
 ghost use Rattle.survey.specs.Survey.{surveyOf};
 ghost use Rattle.assign.specs.Assigned.{plannedOf, assignedOf};
-ghost use Rattle.steps.specs.Closing.{closed};
 
 mod places;
 mod plan;

@@ -2,9 +2,9 @@
 
 ghost use mathlib.Core.Path.{_≡_};
 ghost use Prim.Native.Nat.{_<_, _≤_};
+ghost use Rattle.channels.specs.Change.{Placed};
 ghost use Rattle.steps.specs.Steps.{standsRight, xOf, exchanging, rearranging};
 ghost use Rattle.assign.specs.Assigned.{Movable, plannedOf};
-ghost use Rattle.channels.specs.Change.{Placed};
 use crate::places::lowest_alone;
 use crate::plan::Planned;
 use crate::plan::one_move;

@@ -8,11 +8,11 @@ use Rattle.basis.specs.Choice.{bit}
 use Rattle.basis.specs.Count.{weigh, tally}
 use Rattle.basis.specs.Search.{firstBelow}
 use Rattle.lightpath.specs.declared.Circuit.{Circuit}
-use Rattle.lit_words.specs.Lit.{wordsOf}
-use Rattle.lit_words.specs.declared.Lit.{Lit}
 use Rattle.slots.specs.Slot.{held, isLit, named, holds}
 use Rattle.slots.specs.declared.Slot.{Slot}
 use Rattle.slots.specs.declared.Slot.the-variants.{Unlit as unlit}
+use Rattle.lit_words.specs.Lit.{wordsOf}
+use Rattle.lit_words.specs.declared.Lit.{Lit}
 pub use Rattle.channels.specs.declared.Channel.{Channel}
 
 -- the places of a table

@@ -7,8 +7,8 @@ use native.Mathlib.Numerals.{add-one}
 use native.Mathlib.Omega.{arith}
 use lib.ListN.{length, take, drop, set, length-set}
 use lib.Seq.{take-suc-set, take-all}
-use Rattle.channels.specs.declared.Channel.{Channel}
 use Rattle.slots.specs.declared.Slot.{Slot}
+use Rattle.channels.specs.declared.Channel.{Channel}
 use Rattle.channels.specs.Channels.{Channels}
 use Rattle.refusals.specs.declared.Refusal.{Refusal}
 use Rattle.form.specs.Reader.{Field, got, fault, Reader, andThen}

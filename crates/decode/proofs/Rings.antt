@@ -10,10 +10,10 @@ use lib.Seq.{length-take-le}
 use borrow.Author.Tests.{le-leb, lt-leb, eq-eqb}
 use Rattle.basis.specs.Count.{total}
 use Rattle.ports.specs.Ports.{eachAtMost}
-use Rattle.ring.specs.Making.{makeOf}
-use Rattle.ring.specs.declared.Answered.{Answered}
 use Rattle.refusals.specs.declared.Refusal.{Refusal}
 use Rattle.refusals.specs.declared.Refusal.the-variants.{NodeCount, PortCount, PortSum, CutShort}
+use Rattle.ring.specs.Making.{makeOf}
+use Rattle.ring.specs.declared.Answered.{Answered}
 use Rattle.form.specs.Reader.{fault, andThen, give, _unless_}
 use Rattle.form.specs.Reading.{answeredBy, readPorts}
 use Rattle.decode.specs.Begun.{ringBy}

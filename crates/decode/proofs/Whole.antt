@@ -12,16 +12,16 @@ use mir.Val.{Fits}
 use borrow.Author.Tests.{le-leb, lt-leb, not-true, not-false}
 use Rattle.basis.proofs.Search.{at-all, every-same}
 use Rattle.lit_words.specs.declared.Lit.{Lit}
-use Rattle.channels.specs.Channels.{Channels}
 use Rattle.lit_words.specs.Lit.{litBit, wordsOf}
 use Rattle.lit_words.proofs.Words.{words-say}
+use Rattle.channels.specs.Channels.{Channels}
 use Rattle.ports.specs.Ports.{limitOf}
-use Rattle.ring.specs.Table.{meetsRules, freshTable, withChannels}
-use Rattle.ring.specs.declared.Answered.{Answered}
-use Rattle.ring.specs.declared.RingTable.{RingTable}
 use Rattle.refusals.specs.declared.Refusal.{Refusal}
 use Rattle.refusals.specs.declared.Refusal.the-variants.{CutShort, BadField, TrailingBytes, BrokenForm}
 use Rattle.refusals.specs.declared.Verdict.the-variants.{Granted as granted, Refused as refused}
+use Rattle.ring.specs.Table.{meetsRules, freshTable, withChannels}
+use Rattle.ring.specs.declared.Answered.{Answered}
+use Rattle.ring.specs.declared.RingTable.{RingTable}
 use Rattle.form.specs.Form.{formOf}
 use Rattle.form.specs.Reader.{Field, got, fault}
 use Rattle.form.specs.Reading.{answeredBy, readPorts, mapBit, noneLitFrom, readMap, readRecords, checked, readTable, readOf}

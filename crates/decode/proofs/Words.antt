@@ -8,8 +8,8 @@ use lib.ListN.{getD, take, drop}
 use lib.Pow.{pow-mono}
 use lib.Seq.{getD-take, getD-drop}
 use Rattle.lit_words.specs.Lit.{word}
-use Rattle.form.specs.Reading.{mapBit}
 use Rattle.lit_words.proofs.Bits.{word-lt}
+use Rattle.form.specs.Reading.{mapBit}
 use Rattle.form.proofs.Words.{word-of, low-byte}
 
 -- byte q of the map is the word of its eight places

@@ -6,11 +6,11 @@ use lib.ListN.{length, drop}
 use Rattle.basis.specs.Choice.{pick}
 use Rattle.lit_words.specs.declared.Lit.{Lit}
 use Rattle.lit_words.specs.Lit.{litBit}
+use Rattle.refusals.specs.declared.Refusal.the-variants.{BrokenForm}
+use Rattle.refusals.specs.declared.Verdict.the-variants.{Granted as granted, Refused as refused}
 use Rattle.ring.specs.Table.{meetsRules, blankTable, freshTable}
 use Rattle.ring.specs.declared.RingTable.{RingTable}
-use Rattle.refusals.specs.declared.Refusal.the-variants.{BrokenForm}
 use Rattle.ring.specs.declared.Answered.{Answered}
-use Rattle.refusals.specs.declared.Verdict.the-variants.{Granted as granted, Refused as refused}
 use Rattle.form.specs.Reader.{Field, got, fault, andThen, _>>_, end}
 use Rattle.form.specs.Reading.{readPorts, readRecords, checked, readTable, answeredBy}
 

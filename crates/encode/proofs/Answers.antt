@@ -9,12 +9,12 @@ use lib.ListN.{length, drop}
 use lib.Seq.{sets, sets-eq}
 use borrow.Author.Tests.{lt-ltb, le-ltb, not-true, not-false}
 use Rattle.rules.proofs.Rules.{rules-hold, limits-hold}
+use Rattle.refusals.specs.declared.Refusal.the-variants.{ShortBuffer, BrokenRule}
 use Rattle.ring.specs.Table.{meetsRules}
 use Rattle.ring.specs.declared.RingTable.{RingTable}
-use Rattle.refusals.specs.declared.Refusal.the-variants.{ShortBuffer, BrokenRule}
+use Rattle.text.specs.Put.{Room, Put}
 use Rattle.form.specs.Form.{formOf}
 use Rattle.encode.specs.declared.Written.the-variants.{Length, Refused}
-use Rattle.text.specs.Put.{Room, Put}
 use Rattle.encode.specs.Answer.{writtenOf, bytesAfter}
 
 -- the table breaks a ring rule

@@ -6,9 +6,9 @@ use mathlib.Core.List.{List, [], _∷_}
 use native.Mathlib.Nat.{add-zero}
 use borrow.Author.Tests.{eq-eqb, ne-eqb}
 use Rattle.lightpath.specs.declared.Circuit.{Circuit}
+use Rattle.text.specs.Put.{Room, Put}
 use Rattle.form.specs.Bytes.{fourBytes, twoBytes}
 use Rattle.form.specs.Form.{remarkBytes, circuitBytes}
-use Rattle.text.specs.Put.{Room, Put}
 use Rattle.encode.proofs.Chain.{Putting, start, first, then, done}
 
 -- a number of two bytes, and one of four by its halves

@@ -1,7 +1,7 @@
 -- The length of a form. Assumes nothing.
 use Prim.Native.Nat.{ℕ, _+_, _*_, _≤_, _<_}
 use mathlib.Core.Path.{_≡_, ap, _∙_}
-use mathlib.Core.List.{List, [], _∷_, _++_}
+use mathlib.Core.List.{[], _∷_}
 use native.Mathlib.Numerals.{add-one}
 use native.Mathlib.Omega.{arith}
 use lib.ListN.{length, getD, drop, length-append, drop-of-length-le}
@@ -10,12 +10,12 @@ use borrow.Author.Tests.{eq-eqb, ne-eqb}
 use Rattle.basis.specs.Choice.{bit}
 use Rattle.basis.specs.Count.{countBelow}
 use Rattle.lightpath.specs.declared.Circuit.{Circuit}
-use Rattle.lit_words.specs.declared.Lit.{Lit}
 use Rattle.slots.specs.declared.Slot.{Slot}
 use Rattle.slots.specs.declared.Slot.the-variants.{Unlit as unlit, Alone as alone, Shared as shared}
 use Rattle.slots.specs.Slot.{isLit}
-use Rattle.channels.specs.Channels.{Channels, unlitChannel, at, litPlaces, litOf}
+use Rattle.lit_words.specs.declared.Lit.{Lit}
 use Rattle.lit_words.specs.Lit.{litBit}
+use Rattle.channels.specs.Channels.{Channels, unlitChannel, at, litPlaces, litOf}
 use Rattle.channels.proofs.LitPlaces.{lit-places}
 use Rattle.ring.specs.declared.RingTable.{RingTable}
 use Rattle.form.specs.Bytes.{fourBytes, twoBytes}

@@ -12,10 +12,10 @@ use Rattle.basis.specs.Choice.{bit}
 use Rattle.lightpath.specs.declared.Circuit.{Circuit}
 use Rattle.slots.specs.declared.Slot.{Slot}
 use Rattle.slots.specs.declared.Slot.the-variants.{Unlit as unlit, Alone as alone, Shared as shared}
-use Rattle.channels.specs.Channels.{Channels, unlitChannel}
 use Rattle.lit_words.specs.Lit.{word}
-use Rattle.form.specs.Form.{hasRemark, fieldMap, circuitBytes, recordBytes, recordsBytes}
+use Rattle.channels.specs.Channels.{Channels, unlitChannel}
 use Rattle.text.specs.Put.{Room, Put}
+use Rattle.form.specs.Form.{hasRemark, fieldMap, circuitBytes, recordBytes, recordsBytes}
 use Rattle.encode.proofs.Chain.{Putting, start, first, again, none, then, done}
 
 -- the field map, from the marks of its circuits

@@ -8,12 +8,12 @@ use lib.ListN.{length, take}
 use lib.Seq.{length-take-le}
 use Rattle.lit_words.specs.declared.Lit.{Lit}
 use Rattle.lit_words.specs.Lit.{word}
-use Rattle.channels.specs.Channels.{litAt, litOf}
 use Rattle.lit_words.proofs.Bits.{word-lt}
+use Rattle.channels.specs.Channels.{litAt, litOf}
 use Rattle.ring.specs.declared.RingTable.{RingTable}
+use Rattle.text.specs.Put.{Room, Put}
 use Rattle.form.specs.Form.{mapBytes, recordsBytes, portsBytes, formOf}
 use Rattle.form.proofs.Words.{low-byte}
-use Rattle.text.specs.Put.{Room, Put}
 use Rattle.encode.specs.Words.{lowFirst, wordsBytes}
 use Rattle.encode.proofs.Chain.{Putting, start, first, then, done}
 

@@ -4,12 +4,12 @@ use mathlib.Core.Bool.{not}
 use mathlib.Core.List.{List, [], _∷_, _++_}
 use lib.Dec.{ltb}
 use lib.ListN.{length, drop}
-use Rattle.ring.specs.Table.{meetsRules}
 use Rattle.refusals.specs.Refusal.{Cause, _if_, judged}
-use Rattle.ring.specs.declared.RingTable.{RingTable}
 use Rattle.refusals.specs.declared.Refusal.the-variants.{ShortBuffer, BrokenRule}
 use Rattle.refusals.specs.declared.Verdict.{Verdict}
 use Rattle.refusals.specs.declared.Verdict.the-variants.{Granted as granted, Refused as refused}
+use Rattle.ring.specs.Table.{meetsRules}
+use Rattle.ring.specs.declared.RingTable.{RingTable}
 use Rattle.form.specs.Form.{formOf}
 use Rattle.encode.specs.declared.Written.{Written}
 use Rattle.encode.specs.declared.Written.the-variants.{Length, Refused}

@@ -10,9 +10,9 @@ use borrow.Author.Tests.{lt-ltb, ltb-true, not-true}
 use Rattle.basis.proofs.Bools.{and-left, and-right}
 use Rattle.basis.proofs.Weigh.{bit-most}
 use Rattle.lit_words.specs.Lit.{bitOf, word}
+use Rattle.lit_words.proofs.Bits.{word-bit}
 use Rattle.form.specs.Form.{fieldMap}
 use Rattle.form.specs.Reading.{mapHolds}
-use Rattle.lit_words.proofs.Bits.{word-bit}
 use Rattle.form.proofs.Words.{digit}
 
 module _ (x y z : Bool) where

@@ -4,10 +4,10 @@ use mathlib.Core.Path.{_≡_, sym, ap, _∙_}
 use mathlib.Core.Bool.{true}
 use mathlib.Core.List.{List}
 use native.Mathlib.Omega.{arith}
+use Rattle.refusals.specs.declared.Verdict.the-variants.{Granted as granted}
 use Rattle.ring.specs.Table.{meetsRules}
 use Rattle.ring.specs.declared.RingTable.{RingTable}
 use Rattle.ring.specs.declared.Answered.{Answered}
-use Rattle.refusals.specs.declared.Verdict.the-variants.{Granted as granted}
 use Rattle.form.specs.Form.{formOf}
 use Rattle.form.specs.Reader.{Field, got, fault}
 use Rattle.form.specs.Reading.{answeredBy, readTable, readOf}

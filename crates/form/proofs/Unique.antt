@@ -9,12 +9,12 @@ use lib.Dec.{eqb}
 use lib.ListN.{length}
 use borrow.Author.Tests.{not-true}
 use Rattle.lightpath.specs.declared.Circuit.{Circuit}
-use Rattle.refusals.specs.declared.Refusal.the-variants.{BadField}
 use Rattle.slots.specs.declared.Slot.{Slot}
 use Rattle.slots.specs.declared.Slot.the-variants.{Unlit as unlit, Alone as alone, Shared as shared}
 use Rattle.slots.specs.Slot.{isLit}
-use Rattle.channels.specs.Channels.{Channels, litAt}
 use Rattle.lit_words.specs.Lit.{bitOf}
+use Rattle.channels.specs.Channels.{Channels, litAt}
+use Rattle.refusals.specs.declared.Refusal.the-variants.{BadField}
 use Rattle.form.specs.Bytes.{fourBytes, twoBytes, numberFrom, numberIn}
 use Rattle.form.specs.Form.{hasRemark, fieldMap, remarkBytes, circuitBytes, recordBytes, recordsBytes}
 use Rattle.form.specs.Reader.{byte, bytes}

@@ -16,9 +16,9 @@ use Rattle.channels.specs.Channels.{Channels, litAt}
 use Rattle.channels.proofs.LitPlaces.{unlit-not}
 use Rattle.ports.specs.Ports.{limitOf, eachAtMost}
 use Rattle.rules.proofs.Rules.{rules-hold, limits-hold}
+use Rattle.refusals.specs.declared.Refusal.the-variants.{NodeCount, PortCount, PortSum, BadField, BrokenForm}
 use Rattle.ring.specs.Table.{meetsRules, freshTable, withChannels}
 use Rattle.ring.specs.declared.RingTable.{RingTable}
-use Rattle.refusals.specs.declared.Refusal.the-variants.{NodeCount, PortCount, PortSum, BadField, BrokenForm}
 use Rattle.form.specs.Form.{mapBytes, recordsBytes, portsBytes, formOf}
 use Rattle.form.specs.Reader.{got, byte, bytes, end}
 use Rattle.form.specs.Reading.{readPorts, mapBit, noneLitFrom, readMap, readRecords, checked, readTable}

@@ -8,8 +8,8 @@ use Rattle.basis.specs.Choice.{pick}
 use Rattle.lightpath.specs.declared.Circuit.{Circuit}
 use Rattle.slots.specs.declared.Slot.{Slot}
 use Rattle.slots.specs.declared.Slot.the-variants.{Unlit as unlit, Alone as alone, Shared as shared}
-use Rattle.channels.specs.Channels.{Channels, litAt}
 use Rattle.lit_words.specs.Lit.{word}
+use Rattle.channels.specs.Channels.{Channels, litAt}
 use Rattle.ring.specs.declared.RingTable.{RingTable}
 use Rattle.form.specs.Bytes.{fourBytes, twoBytes}
 

@@ -10,14 +10,14 @@ use Rattle.basis.specs.Search.{everyBelow}
 use Rattle.lightpath.specs.declared.Circuit.{Circuit}
 use Rattle.slots.specs.declared.Slot.{Slot}
 use Rattle.slots.specs.declared.Slot.the-variants.{Unlit as unlit, Alone as alone, Shared as shared}
-use Rattle.channels.specs.Channels.{Channels}
 use Rattle.lit_words.specs.Lit.{bitOf}
+use Rattle.channels.specs.Channels.{Channels}
 use Rattle.ports.specs.Ports.{limitOf, eachAtMost}
+use Rattle.refusals.specs.declared.Refusal.the-variants.{NodeCount, PortCount, PortSum, BadField, BrokenForm}
+use Rattle.refusals.specs.declared.Verdict.the-variants.{Granted as granted, Refused as refused}
 use Rattle.ring.specs.Table.{meetsRules, blankTable, freshTable, withChannels}
 use Rattle.ring.specs.declared.RingTable.{RingTable}
 use Rattle.ring.specs.declared.Answered.{Answered}
-use Rattle.refusals.specs.declared.Refusal.the-variants.{NodeCount, PortCount, PortSum, BadField, BrokenForm}
-use Rattle.refusals.specs.declared.Verdict.the-variants.{Granted as granted, Refused as refused}
 use Rattle.form.specs.Bytes.{numberIn}
 use Rattle.form.specs.Reader.{Field, got, fault, Reader, _>>=_, _>>_, give, _unless_, byte, bytes, end}
 

@@ -1,6 +1,5 @@
 // The circuits of a table gathered into an array by rising place: all of them, or the nonsharing ones below a limit.
 
-ghost use mathlib.Core.Path.{_≡_};
 ghost use Prim.Native.Nat.{_≤_};
 ghost use Rattle.channels.specs.Channels.{circuits};
 ghost use Rattle.channels.specs.Nonsharing.{nonsharing};

@@ -7,11 +7,11 @@ use native.Mathlib.Omega.{arith}
 use lib.ListN.{length, drop}
 use borrow.Author.Tests.{lt-ltb, le-ltb}
 use Rattle.rules.proofs.Rules.{rules-hold, limits-hold}
-use Rattle.ring.specs.Table.{meetsRules}
-use Rattle.ring.specs.declared.RingTable.{RingTable}
 use Rattle.refusals.specs.declared.Refusal.the-variants.{ShortBuffer, BrokenRule}
 use Rattle.refusals.specs.declared.Verdict.{Verdict}
 use Rattle.refusals.specs.declared.Verdict.the-variants.{Granted as granted, Refused as refused}
+use Rattle.ring.specs.Table.{meetsRules}
+use Rattle.ring.specs.declared.RingTable.{RingTable}
 use Rattle.load.specs.Load.{loads}
 use Rattle.load.specs.Report.{reportOf, bufferAfter}
 

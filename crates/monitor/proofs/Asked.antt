@@ -9,13 +9,13 @@ use Rattle.basis.proofs.Bools.{and-left, and-right}
 use Rattle.lightpath.specs.Circuit.{onRing}
 use Rattle.ports.specs.Ports.{wavelengths}
 use Rattle.rules.proofs.Rules.{rules-hold, limits-hold}
-use Rattle.ring.specs.Table.{meetsRules}
-use Rattle.ring.proofs.Causes.{none-holds}
-use Rattle.ring.specs.declared.RingTable.{RingTable}
 use Rattle.refusals.specs.declared.Refusal.{Refusal}
 use Rattle.refusals.specs.declared.Verdict.{Verdict}
 use Rattle.refusals.specs.declared.Refusal.the-variants.{OffRing, NoWavelength, NoDirection}
 use Rattle.refusals.specs.declared.Verdict.the-variants.{Granted as granted, Refused as refused}
+use Rattle.ring.specs.Table.{meetsRules}
+use Rattle.ring.specs.declared.RingTable.{RingTable}
+use Rattle.ring.proofs.Causes.{none-holds}
 use Rattle.monitor.specs.Link.{refusalOf, way, circuitOn, linkCauses, linkVerdict, linkOf, Asked}
 
 -- the verdict, from the tests as they stand in the code

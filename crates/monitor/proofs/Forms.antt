@@ -13,11 +13,11 @@ use Rattle.lightpath.specs.declared.Direction.{Direction}
 use Rattle.slots.specs.Slot.{held}
 use Rattle.channels.specs.Channels.{at}
 use Rattle.ports.specs.Ports.{wavelengths}
+use Rattle.refusals.specs.declared.Refusal.{Refusal}
+use Rattle.refusals.specs.declared.Verdict.the-variants.{Granted as granted, Refused as refused}
 use Rattle.ring.specs.Table.{meetsRules}
 use Rattle.ring.specs.declared.RingTable.{RingTable}
 use Rattle.ring.specs.declared.Answered.{Answered}
-use Rattle.refusals.specs.declared.Refusal.{Refusal}
-use Rattle.refusals.specs.declared.Verdict.the-variants.{Granted as granted, Refused as refused}
 use Rattle.form.specs.Reading.{readOf}
 use Rattle.form.proofs.Laws.{read-meets}
 use Rattle.monitor.specs.Link.{none, refusalOf, linkOf}

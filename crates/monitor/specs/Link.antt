@@ -14,11 +14,11 @@ use Rattle.slots.specs.Slot.{held}
 use Rattle.channels.specs.Channels.{at}
 use Rattle.ports.specs.Ports.{wavelengths}
 use Rattle.refusals.specs.Refusal.{numberOf, Cause, _if_, judged}
-use Rattle.ring.specs.declared.RingTable.{RingTable}
 use Rattle.refusals.specs.declared.Refusal.{Refusal}
 use Rattle.refusals.specs.declared.Refusal.the-variants.{OffRing, NoWavelength, NoDirection}
 use Rattle.refusals.specs.declared.Verdict.{Verdict}
 use Rattle.refusals.specs.declared.Verdict.the-variants.{Granted as granted, Refused as refused}
+use Rattle.ring.specs.declared.RingTable.{RingTable}
 
 -- 4,294,967,296 for none
 abbrev pub none : ℕ

@@ -2,10 +2,10 @@
 -- wavelength and the direction. Assumes nothing.
 use Prim.Native.Nat.{ℕ}
 use mathlib.Core.List.{List}
-use Rattle.form.specs.Reading.{readOf}
-use Rattle.ring.specs.declared.RingTable.{RingTable}
 use Rattle.refusals.specs.declared.Verdict.{Verdict}
 use Rattle.refusals.specs.declared.Verdict.the-variants.{Granted as granted, Refused as refused}
+use Rattle.ring.specs.declared.RingTable.{RingTable}
+use Rattle.form.specs.Reading.{readOf}
 use Rattle.monitor.specs.Link.{refusalOf, linkOf}
 
 -- the question of the table that was read, or the form's own refusal

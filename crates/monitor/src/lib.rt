@@ -3,8 +3,8 @@
 ghost use mathlib.Core.Path.{_≡_};
 ghost use mathlib.Core.Bool.{true};
 ghost use Prim.Native.Nat.{_<_};
-ghost use Rattle.slots.specs.Slot.{held};
 ghost use Rattle.lightpath.specs.Circuit.{onRing};
+ghost use Rattle.slots.specs.Slot.{held};
 ghost use Rattle.ring.specs.Table.{meetsRules};
 ghost use Rattle.monitor.specs.Link.{refusalOf, way, running, circuitOn, linkVerdict, linkOf, Asked};
 ghost use Rattle.monitor.specs.Question.{ringLink};

@@ -13,9 +13,9 @@ use Rattle.basis.specs.Search.{firstPlace, pairsWith, pairsOf}
 use Rattle.basis.proofs.Arrays.{array-length}
 use Rattle.lightpath.specs.declared.Circuit.{Circuit}
 use Rattle.channels.specs.Channels.{Channels}
-use Rattle.gather.specs.Gathering.{Gathers}
 use Rattle.channels.specs.Nonsharing.{adjacentPair}
 use Rattle.channels.specs.declared.Standing.{Standing}
+use Rattle.gather.specs.Gathering.{Gathers}
 use Rattle.steps.specs.Steps.{newcomer, candidates, passed}
 use Rattle.pairs.specs.Pairs.{Pair, blankStanding, passedIn, firstPair, pairOf}
 

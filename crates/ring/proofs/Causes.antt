@@ -19,11 +19,11 @@ use Rattle.moves.specs.declared.Move.{Move}
 use Rattle.ports.specs.Ports.{portsAt}
 use Rattle.usage.specs.Usage.{sends, receives, freeTransmitter, freeReceiver}
 use Rattle.rules.proofs.Allowable.{Allowable}
-use Rattle.ring.specs.Table.{RingTable}
+use Rattle.survey.specs.declared.Survey.{Survey}
 use Rattle.refusals.specs.Refusal.{numberOf, Cause, judged}
 use Rattle.refusals.specs.declared.Refusal.{Refusal}
 use Rattle.refusals.specs.declared.Verdict.the-variants.{Granted as granted, Refused as refused}
-use Rattle.survey.specs.declared.Survey.{Survey}
+use Rattle.ring.specs.Table.{RingTable}
 use Rattle.ring.specs.Opening.{surveyed, requestCauses, openCauses}
 use Rattle.ring.specs.Demand3.{Reason, reasons, someGiven, firstNumber}
 

@@ -12,9 +12,9 @@ use Rattle.rules.proofs.Rules.{Rules, rules-hold, limits-hold}
 use Rattle.steps.specs.Closing.{closed}
 use Rattle.steps.specs.Kept.{Kept}
 use Rattle.steps.proofs.Closing.{closes, close-there}
-use Rattle.ring.specs.Table.{RingTable, meetsRules, withChannels}
 use Rattle.refusals.specs.declared.Refusal.the-variants.{NotLive, BrokenRule}
 use Rattle.refusals.specs.declared.Verdict.the-variants.{Granted as granted, Refused as refused}
+use Rattle.ring.specs.Table.{RingTable, meetsRules, withChannels}
 use Rattle.ring.specs.Closing.{Answered, closedBy, closeOf}
 use Rattle.ring.specs.Answer.{refusal, verdictAnswer}
 use Rattle.ring.proofs.Live.{live-where}

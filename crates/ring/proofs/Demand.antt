@@ -18,9 +18,9 @@ use Rattle.moves.proofs.Written.{length-written, take-written, drop-written, wr
 use Rattle.ports.specs.Ports.{limitOf}
 use Rattle.rules.proofs.Rules.{Rules, rules-hold, limits-hold}
 use Rattle.assign.proofs.ByValue.{assigned-counts}
-use Rattle.ring.specs.Table.{RingTable, meetsRules, withChannels}
 use Rattle.refusals.specs.Refusal.{judged}
 use Rattle.refusals.specs.declared.Verdict.the-variants.{Granted as granted, Refused as refused}
+use Rattle.ring.specs.Table.{RingTable, meetsRules, withChannels}
 use Rattle.ring.specs.Opening.{Opened, Decision, openCauses, openOf, lentAfter}
 use Rattle.ring.specs.Answer.{refusal}
 use Rattle.ring.specs.Demand3.{reasons, someGiven, RefusedBy, firstNumber, Refused3, Served3, ServedBy, Demand3}

@@ -13,12 +13,12 @@ use Rattle.channels.specs.Channels.{Channels, unlitChannels}
 use Rattle.ports.specs.Ports.{eachAtMost}
 use Rattle.rules.proofs.Rules.{rules-test}
 use Rattle.rules.proofs.Fresh.{fresh-rules}
-use Rattle.ring.specs.Table.{RingTable, meetsRules, blankTable, freshTable}
 use Rattle.refusals.specs.Refusal.{judged}
 use Rattle.refusals.specs.declared.Refusal.{Refusal}
 use Rattle.refusals.specs.declared.Refusal.the-variants.{NodeCount}
 use Rattle.refusals.specs.declared.Verdict.{Verdict}
 use Rattle.refusals.specs.declared.Verdict.the-variants.{Granted as granted, Refused as refused}
+use Rattle.ring.specs.Table.{RingTable, meetsRules, blankTable, freshTable}
 use Rattle.ring.specs.Making.{portCauses, makeCauses, madeBy, makeOf}
 use Rattle.ring.proofs.Causes.{none-holds}
 use Rattle.ring.proofs.Fields.{fields-judged}

@@ -8,26 +8,26 @@ use native.Mathlib.Omega.{arith}
 use lib.Dec.{ltb}
 use lib.ListN.{getD}
 use borrow.Author.Tests.{not-true}
+use Rattle.basis.proofs.Bools.{and-left, and-right}
 use Rattle.lightpath.specs.declared.Circuit.{Circuit}
 use Rattle.moves.specs.Records.{listed}
 use Rattle.ports.specs.Ports.{limitOf}
-use Rattle.basis.proofs.Bools.{and-left, and-right}
 use Rattle.rules.specs.Rules.{unlitFrom}
 use Rattle.rules.proofs.Rules.{Rules, rules-hold, limits-hold}
 use Rattle.rules.proofs.Allowable.{Allowable}
+use Rattle.steps.specs.Steps.{Ready}
+use Rattle.steps.specs.Kept.{Served}
+use Rattle.steps.proofs.Step3.{ready}
 use Rattle.survey.specs.Survey.{surveyOf}
 use Rattle.survey.specs.declared.Survey.{Survey}
 use Rattle.assign.specs.Assigned.{assignedOf}
-use Rattle.steps.specs.Steps.{Ready}
 use Rattle.assign.specs.declared.Assigned.{Assigned}
-use Rattle.steps.specs.Kept.{Served}
-use Rattle.steps.proofs.Step3.{ready}
 use Rattle.assign.proofs.ByValue.{assigned-serves, assigned-looks}
-use Rattle.ring.specs.Table.{RingTable, meetsRules}
 use Rattle.refusals.specs.Refusal.{_if_, judged}
 use Rattle.refusals.specs.declared.Refusal.the-variants.{ShortList, BrokenRule}
 use Rattle.refusals.specs.declared.Verdict.{Verdict}
 use Rattle.refusals.specs.declared.Verdict.the-variants.{Granted as granted, Refused as refused}
+use Rattle.ring.specs.Table.{RingTable, meetsRules}
 use Rattle.ring.specs.Opening.{Decision, surveyed, requestCauses, openCauses, served, refusing, decidedBy, decideOf}
 use Rattle.ring.specs.Answer.{Answer, openingAnswer}
 use Rattle.ring.proofs.Causes.{granted-rest, allowable}

@@ -16,8 +16,8 @@ use Rattle.moves.specs.declared.Move.{Move}
 use Rattle.ports.specs.Ports.{limitOf, portsAt}
 use Rattle.usage.specs.Usage.{sends, receives}
 use Rattle.rules.specs.Rules.{carried}
-use Rattle.assign.specs.Assigned.{assignedOf}
 use Rattle.steps.specs.Kept.{moved, Names}
+use Rattle.assign.specs.Assigned.{assignedOf}
 use Rattle.ring.specs.Table.{RingTable, meetsRules}
 use Rattle.ring.specs.Opening.{Opening, Opened}
 use Rattle.ring.specs.Answer.{refusal, openingAnswer}

@@ -6,11 +6,11 @@ use lib.Dec.{eqb, leb}
 use lib.ListN.{length}
 use Rattle.basis.specs.Count.{total}
 use Rattle.ports.specs.Ports.{eachAtMost}
-use Rattle.ring.specs.Table.{blankTable, freshTable}
 use Rattle.refusals.specs.Refusal.{Cause, _if_, judged}
 use Rattle.refusals.specs.declared.Refusal.the-variants.{NodeCount, PortCount, PortSum}
 use Rattle.refusals.specs.declared.Verdict.{Verdict}
 use Rattle.refusals.specs.declared.Verdict.the-variants.{Granted as granted, Refused as refused}
+use Rattle.ring.specs.Table.{blankTable, freshTable}
 pub use Rattle.ring.specs.declared.Answered.{Answered}
 
 -- some k_i above 64; K above 192

@@ -16,12 +16,12 @@ use Rattle.survey.specs.Survey.{surveyOf}
 use Rattle.survey.specs.declared.Survey.{Survey}
 use Rattle.assign.specs.Assigned.{assignedOf}
 use Rattle.assign.specs.declared.Assigned.{Assigned}
-use Rattle.ring.specs.Table.{RingTable, meetsRules, withChannels}
 use Rattle.refusals.specs.Refusal.{Cause, _if_, judged}
 use Rattle.refusals.specs.declared.Refusal.{Refusal}
 use Rattle.refusals.specs.declared.Refusal.the-variants.{OffRing, SameNode, NumberLive, NoTransmitter, NoReceiver, ShortList, BrokenRule}
 use Rattle.refusals.specs.declared.Verdict.{Verdict}
 use Rattle.refusals.specs.declared.Verdict.the-variants.{Granted as granted, Refused as refused}
+use Rattle.ring.specs.Table.{RingTable, meetsRules, withChannels}
 pub use Rattle.ring.specs.declared.Opening.{Opening}
 pub use Rattle.ring.specs.declared.Opening.the-variants.{Taken as taken, Refused as notOpened}
 pub use Rattle.ring.specs.declared.Opened.{Opened}

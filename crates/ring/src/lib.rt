@@ -7,8 +7,8 @@ mod lend;
 mod make;
 
 ghost use mathlib.Core.Path.{_≡_};
-ghost use Rattle.ring.specs.Table.{meetsRules, blankTable};
 ghost use Rattle.ports.specs.Ports.{wavelengths};
+ghost use Rattle.ring.specs.Table.{meetsRules, blankTable};
 use channels::Channel;
 use lightpath::Place;
 use moves::Move;

@@ -6,15 +6,15 @@ use mathlib.Core.List.{List, _++_}
 use lib.ListN.{length, take}
 use Rattle.basis.specs.Choice.{pick}
 use Rattle.lightpath.specs.declared.Circuit.{Circuit}
-use Rattle.ports.specs.Ports.{wavelengths}
 use Rattle.moves.specs.Records.{listed}
+use Rattle.ports.specs.Ports.{wavelengths}
+use Rattle.refusals.specs.declared.Verdict.{Verdict}
+use Rattle.refusals.specs.declared.Verdict.the-variants.{Granted as granted, Refused as refused}
 use Rattle.ring.specs.Table.{meetsRules, blankTable}
 use Rattle.ring.specs.Making.{makeOf}
 use Rattle.ring.specs.Opening.{decideOf}
 use Rattle.ring.specs.Closing.{closeOf}
 use Rattle.ring.specs.declared.RingTable.{RingTable}
-use Rattle.refusals.specs.declared.Verdict.{Verdict}
-use Rattle.refusals.specs.declared.Verdict.the-variants.{Granted as granted, Refused as refused}
 use Rattle.line.specs.declared.Request.{Request}
 use Rattle.line.specs.declared.Request.the-variants.{Ring, Open, Close, Bad}
 use Rattle.line.specs.Line.{parseLine}

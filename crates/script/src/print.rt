@@ -2,9 +2,9 @@
 ghost use Prim.Native.Nat.{_+_, _≤_};
 ghost use mathlib.Core.List.{[], _∷_, _++_};
 ghost use lib.ListN.{length};
-ghost use Rattle.text.specs.Bytes.{bytes};
-ghost use Rattle.refusals.specs.Refusal.{numberOf};
 ghost use Rattle.moves.specs.Records.{listed};
+ghost use Rattle.refusals.specs.Refusal.{numberOf};
+ghost use Rattle.text.specs.Bytes.{bytes};
 ghost use Rattle.script.specs.Answers.{Printed, piece, lineOf, lineRefused, ringLine, closeLine, openLine, moveLine, moveLines};
 use lightpath::Place;
 use moves::Move;

@@ -17,12 +17,12 @@ use Rattle.basis.proofs.Descent.{Lowest, lowest-start, lowest-next, lowest-end}
 use Rattle.lightpath.specs.declared.Circuit.{Circuit}
 use Rattle.slots.specs.Slot.{held, isUnlit, isLit, firstOf}
 use Rattle.slots.specs.declared.Slot.the-variants.{Unlit as unlit}
+use Rattle.lit_words.specs.Lit.{litBit}
+use Rattle.lit_words.proofs.Words.{Built, built-start, built-room, built-next, built-end}
 use Rattle.channels.specs.Channels.{Channels, at, circuits, numbered, litAt}
 use Rattle.channels.specs.Nonsharing.{standingAt}
 use Rattle.channels.specs.declared.Standing.{Standing}
-use Rattle.lit_words.specs.Lit.{litBit}
 use Rattle.channels.proofs.Places.{is-unlit, none-there, weigh-from, weigh-unlit, weigh-most}
-use Rattle.lit_words.proofs.Words.{Built, built-start, built-room, built-next, built-end}
 use Rattle.channels.proofs.LitPlaces.{unlit-words}
 use Rattle.usage.specs.Usage.{sends, receives}
 use Rattle.rules.specs.Rules.{unlitFrom}

@@ -5,9 +5,9 @@ use Rattle.basis.specs.Choice.{pick}
 use Rattle.lightpath.specs.declared.Circuit.{Circuit}
 use Rattle.slots.specs.Slot.{held, isLit, firstOf}
 use Rattle.slots.specs.declared.Slot.{Slot}
+use Rattle.lit_words.specs.Lit.{under, Room}
 use Rattle.channels.specs.Channels.{Channels, circuits, numbered, litOf}
 use Rattle.channels.specs.Nonsharing.{standingAt}
-use Rattle.lit_words.specs.Lit.{under, Room}
 use Rattle.usage.specs.Usage.{sends, receives}
 use Rattle.steps.specs.Steps.{canJoin, joinPlace}
 pub use Rattle.survey.specs.declared.Survey.{Survey}

@@ -1,10 +1,10 @@
 -- `assign::places::lowest_alone` meets its contract. Assumes nothing.
 use Prim.Native.Nat.{_-_, _≤_}
 use mathlib.Core.Bool.{false, _&&_}
+use Rattle.basis.proofs.Scan.{Passed, scan}
 use Rattle.lightpath.specs.Place.{directionOf, sameDirection}
 use Rattle.slots.specs.Slot.{isAlone}
 use Rattle.channels.specs.Channels.{at}
-use Rattle.basis.proofs.Scan.{Passed, scan}
 use borrow.Author.Needs.{needs}
 use Rattle.assign.proofs.places.lowest_alone.Statement.{statement}
 use Rattle.assign.proofs.places.lowest_alone.Tie as tie

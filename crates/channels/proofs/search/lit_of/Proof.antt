@@ -1,7 +1,7 @@
 -- `channels::lit_of` meets its contract. Assumes nothing.
 use Prim.Native.Nat.{_≤_}
-use Rattle.channels.specs.Channels.{litAt}
 use Rattle.lit_words.proofs.Words.{Built, built-start, built-room, built-next, built-end}
+use Rattle.channels.specs.Channels.{litAt}
 use borrow.Author.Needs.{needs}
 use native.Mathlib.Omega.{arith}
 use Rattle.channels.proofs.search.lit_of.Statement.{statement}

@@ -1,9 +1,9 @@
 -- `channels::place_of` meets its contract. Assumes nothing.
 use Prim.Native.Nat.{_-_, _≤_}
 use mathlib.Core.Bool.{false}
+use Rattle.basis.proofs.Scan.{Passed, scan}
 use Rattle.slots.specs.Slot.{holds}
 use Rattle.channels.specs.Channels.{at}
-use Rattle.basis.proofs.Scan.{Passed, scan}
 use borrow.Author.Needs.{needs}
 use Rattle.channels.proofs.search.place_of.Statement.{statement}
 use Rattle.channels.proofs.search.place_of.Tie as tie

@@ -7,8 +7,9 @@ use types.Kit.{mean, updating, now, check}
 use denote.Plain.{nothing-tells}
 use denote.Struct.Laws as LL
 use Rattle.lightpath.specs.declared.Circuit.{Circuit}
+use Rattle.lightpath.proofs.Circuit as K
+use Rattle.lightpath.proofs.Circuit.Laws as K′
 use Rattle.moves.specs.declared.Move.{Move}
-use Rattle.moves.specs.declared.Moves.{Moves}
 use Rattle.moves.specs.Lent.{written}
 use Rattle.moves.proofs.Walk.{says3, made}
 use Rattle.moves.proofs.Move as N
@@ -20,13 +21,11 @@ use Rattle.moves.proofs.write_moves.Symbol as write-moves-def
 use Rattle.moves.proofs.write_moves.Symbol.{name as #moves·write-moves}
 use Rattle.moves.proofs.write_moves.Met as write-moves-thm
 use Rattle.ring.specs.Table.{RingTable}
-use Rattle.ring.specs.Opening.{Decision, decideOf, openOf, lentAfter}
+use Rattle.ring.specs.Opening.{Decision, decideOf}
 use Rattle.ring.proofs.Demand.{demand3-of}
 use Rattle.ring.proofs.Lending as L
 use Rattle.ring.proofs.RingTable as T
 use Rattle.ring.proofs.RingTable.Laws as T′
-use Rattle.lightpath.proofs.Circuit as K
-use Rattle.lightpath.proofs.Circuit.Laws as K′
 use Rattle.ring.proofs.Opened as O
 use Rattle.ring.proofs.Opened.Laws as O′
 use Rattle.ring.proofs.Decision as D
