@@ -143,7 +143,9 @@ fn make_ring() -> RingTable {
 }
 
 // A circuit without a remark.
-fn circuit(number: u32, source: u8, destination: u8) -> Circuit {
+fn circuit(number: u32, source: u8, destination: u8) -> Circuit
+    ensures { λ r. ⌜ r ≡ record { number = number; source = source; destination = destination; remark = 0 } ⌝ }
+{
     Circuit {
         number,
         source,
@@ -153,8 +155,7 @@ fn circuit(number: u32, source: u8, destination: u8) -> Circuit {
 }
 
 // Document 01's script.
-fn main() {
-    let table = make_ring();
+fn run_script(table: RingTable) -> RingTable {
     let table = open_circuit(table, circuit(11, 1, 5));
     let table = open_circuit(table, circuit(12, 2, 3));
     let table = open_circuit(table, circuit(13, 4, 1));
@@ -162,5 +163,19 @@ fn main() {
     let table = open_circuit(table, circuit(15, 5, 4));
     let table = open_circuit(table, circuit(16, 1, 2));
     let table = close_circuit(table, 13);
-    open_circuit(table, circuit(16, 4, 1));
+    open_circuit(table, circuit(16, 4, 1))
+}
+
+// After it, an opening that moves one circuit.
+fn move_one(table: RingTable) {
+    let table = close_circuit(table, 16);
+    let table = close_circuit(table, 11);
+    let table = close_circuit(table, 12);
+    let table = open_circuit(table, circuit(17, 1, 5));
+    let table = open_circuit(table, circuit(18, 4, 1));
+    open_circuit(table, circuit(19, 2, 3));
+}
+
+fn main() {
+    move_one(run_script(make_ring()));
 }

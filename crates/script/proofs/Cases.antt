@@ -14,7 +14,7 @@ use Rattle.text.specs.Decimal.{digitsUpTo, decimal}
 use Rattle.text.specs.Number.{numberAfter, number}
 use Rattle.line.specs.Words.{wordsAfter}
 use Rattle.line.specs.Line.{field, portsAfter, parseRing, parseOpen, parseClose, parseWords, parseLine}
-use Rattle.script.specs.Answers.{piece, moveLine}
+use Rattle.print.specs.Answers.{piece, moveLine}
 use Rattle.script.specs.Desk.{runRing, runOpen, runClose}
 use Rattle.script.specs.Script.{linesAfter, linesText, scriptText}
 
@@ -70,7 +70,7 @@ cases =
     -- leading zeros are read and not printed
     ∷ (bytes "ring 003 01 001 1\nopen 0007 1 2 0\n", bytes "ring 3 wavelengths 1\nopen 7 place 0 moves 0 looks 0\n")
     -- a line over 256 bytes is one refused line, and the next is run
-    ∷ (replicate 600 48 ++ bytes "\nring 3 1 1 1\n", bytes "line refused\nring 3 wavelengths 1\n")
+    ∷ (replicate 257 48 ++ bytes "\nring 3 1 1 1\n", bytes "line refused\nring 3 wavelengths 1\n")
     ∷ []
 
 -- each script prints what the table says

@@ -8,7 +8,7 @@ use lib.ListN.{length, take, getD, set, length-append, length-set}
 use lib.Seq.{take-suc-set, take-all, take-at, length-take-le}
 use borrow.Author.Tests.{ne-eqb}
 use Rattle.text.proofs.Put.{put-none, put-put, put-length}
-use Rattle.script.specs.Answers.{Printed}
+use Rattle.print.specs.Answers.{Printed}
 use Rattle.script.specs.Desk.{Desk, Ran, KeepsRules, runLine, answerRoom, Runs, Ended}
 use Rattle.script.specs.Bytes.{Script, Session, Fed, after, texts, endText, startSession, scriptOf, Sound, Took}
 use Rattle.script.proofs.Cuts.{after-more, texts-more}

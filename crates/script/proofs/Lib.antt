@@ -1,4 +1,3 @@
-pub mod Printing
 pub mod Running
 pub mod Cuts
 pub mod Feeding

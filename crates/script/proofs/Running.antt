@@ -22,7 +22,7 @@ use Rattle.ring.proofs.Closing.{close-rules}
 use Rattle.line.specs.declared.Request.{Request}
 use Rattle.line.specs.declared.Line.{Line}
 use Rattle.line.specs.Line.{parseLine}
-use Rattle.script.specs.Answers.{Printed, ringLine, closeLine, openLine, moveLines}
+use Rattle.print.specs.Answers.{Printed, ringLine, closeLine, openLine, moveLines}
 use Rattle.script.specs.Desk.{Desk, Ran, deskWith, refuse, runRing, runOpen, runClose, run, runLine, Runs, Ended}
 
 -- a text that takes few bytes takes no more than many

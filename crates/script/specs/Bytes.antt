@@ -5,7 +5,7 @@ use mathlib.Core.List.{List, [], _∷_, _++_}
 use lib.Dec.{eqb}
 use lib.ListN.{length, take, replicate}
 use Rattle.basis.specs.Choice.{pick}
-use Rattle.script.specs.Answers.{Printed}
+use Rattle.print.specs.Answers.{Printed}
 use Rattle.script.specs.Desk.{Desk, emptyDesk, KeepsRules, runLine, answerRoom}
 pub use Rattle.script.specs.declared.Session.{Session}
 pub use Rattle.script.specs.declared.Fed.{Fed}

@@ -18,7 +18,7 @@ use Rattle.ring.specs.declared.RingTable.{RingTable}
 use Rattle.line.specs.declared.Request.{Request}
 use Rattle.line.specs.declared.Request.the-variants.{Ring, Open, Close, Bad}
 use Rattle.line.specs.Line.{parseLine}
-use Rattle.script.specs.Answers.{Printed, lineRefused, ringLine, closeLine, openLine, moveLines}
+use Rattle.print.specs.Answers.{Printed, lineRefused, ringLine, closeLine, openLine, moveLines}
 pub use Rattle.script.specs.declared.Desk.{Desk}
 pub use Rattle.script.specs.declared.Ran.{Ran}
 

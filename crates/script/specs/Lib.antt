@@ -1,4 +1,3 @@
-pub mod Answers
 pub mod Desk
 pub mod Script
 pub mod Bytes

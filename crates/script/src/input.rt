@@ -2,7 +2,7 @@
 ghost use mathlib.Core.Path.{_≡_};
 ghost use Prim.Native.Nat.{_*_, _≤_};
 ghost use lib.ListN.{length};
-ghost use Rattle.script.specs.Answers.{Printed};
+ghost use Rattle.print.specs.Answers.{Printed};
 ghost use Rattle.script.specs.Desk.{answerRoom};
 ghost use Rattle.script.specs.Bytes.{Sound, Took, startSession, scriptOf, endText};
 use crate::Desk;

@@ -1,6 +1,5 @@
 // One line of a script, run and answered as bytes, and a script's bytes as they come.
 mod input;
-mod print;
 mod run;
 
 pub use input::feed;

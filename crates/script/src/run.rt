@@ -2,7 +2,6 @@
 ghost use Rattle.script.specs.Desk.{Runs, Ended, runRing, runOpen, runClose, runLine, refuse as Desk·refuse};
 use crate::Desk;
 use crate::Ran;
-use crate::print;
 use lightpath::Circuit;
 use line::Request;
 use refusals::Verdict;
@@ -43,12 +42,10 @@ fn run_open(desk: Desk, circuit: Circuit, out: &mut [u8], at: usize) -> Ran
     if !desk.ready {
         return refuse(desk, out, at);
     }
-    let table = desk.table;
-    let decision = table.decide_valid(circuit, 3);
+    let decision = desk.table.decide_valid(circuit, 3);
     let opened = decision.opened;
     let answer = opened.answer;
-    let moves = decision.moves;
-    let next = print::put_opening(out, at, circuit.number, answer, moves);
+    let next = print::put_opening(out, at, circuit.number, answer, decision.moves);
     let table = opened.table;
     Ran {
         desk: Desk { ready: true, table },
@@ -64,8 +61,7 @@ fn run_close(desk: Desk, number: u32, out: &mut [u8], at: usize) -> Ran
     if !desk.ready {
         return refuse(desk, out, at);
     }
-    let table = desk.table;
-    let answered = table.close_valid(number);
+    let answered = desk.table.close_valid(number);
     let verdict = answered.verdict;
     let next = print::put_closing(out, at, number, verdict);
     let table = answered.table;

@@ -1,17 +1,17 @@
--- `script::print::put_closing` meets its contract. Assumes nothing.
+-- `print::put_ring` meets its contract. Assumes nothing.
 use borrow.Author.Needs.{needs}
-use Rattle.script.proofs.Printing.{lines}
-use Rattle.script.proofs.print.put_closing.Statement.{statement}
-use Rattle.script.proofs.print.put_closing.Tie as tie
+use Rattle.print.proofs.Printing.{lines}
+use Rattle.print.proofs.put_ring.Statement.{statement}
+use Rattle.print.proofs.put_ring.Tie as tie
 
 enum-told : tie.Need-enum-told
 enum-told c = search needs
 
-slice-aggregate-put-last : tie.Need-slice-aggregate-put-last
-slice-aggregate-put-last c = search needs
+slice-aggregate-put-filled : tie.Need-slice-aggregate-put-filled
+slice-aggregate-put-filled c = search needs
 
-put-last-requires : tie.Need-put-last-requires
-put-last-requires c κs = search needs
+put-filled-requires : tie.Need-put-filled-requires
+put-filled-requires c κs = search needs
 
 enum-known-verdict : tie.Need-enum-known-verdict
 enum-known-verdict c = search needs
@@ -26,21 +26,21 @@ same-length : tie.Need-same-length
 same-length c = search needs
 
 returns : tie.Need-returns
-returns c = record { put = search lines; short = search needs }
+returns c = search (needs, lines)
 
 same-length-2 : tie.Need-same-length-2
 same-length-2 c = search needs
 
 returns-2 : tie.Need-returns-2
-returns-2 c = record { put = search lines; short = search needs }
+returns-2 c = search (needs, lines)
 
-pub put-closing-spec : {M : Type 1} → statement M
-put-closing-spec =
+pub put-ring-spec : {M : Type 1} → statement M
+put-ring-spec =
     tie.close
     (tie.spec
     enum-told
-    slice-aggregate-put-last
-    put-last-requires
+    slice-aggregate-put-filled
+    put-filled-requires
     enum-known-verdict
     slice-aggregate-put-refusal
     put-refusal-requires

@@ -1,8 +1,8 @@
--- `script::print::put_opening` meets its contract. Assumes nothing.
+-- `print::put_opening` meets its contract. Assumes nothing.
 use borrow.Author.Needs.{needs}
-use Rattle.script.proofs.Printing.{lines}
-use Rattle.script.proofs.print.put_opening.Statement.{statement}
-use Rattle.script.proofs.print.put_opening.Tie as tie
+use Rattle.text.proofs.Put.{put-put}
+use Rattle.print.proofs.put_opening.Statement.{statement}
+use Rattle.print.proofs.put_opening.Tie as tie
 
 put-open-line-requires : tie.Need-put-open-line-requires
 put-open-line-requires c κs = search needs
@@ -14,7 +14,7 @@ same-length : tie.Need-same-length
 same-length c = search needs
 
 returns : tie.Need-returns
-returns c = record { put = search lines; short = search needs }
+returns c = record { put = search put-put; short = search needs }
 
 pub put-opening-spec : {M : Type 1} → statement M
 put-opening-spec =

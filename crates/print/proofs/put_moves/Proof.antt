@@ -1,8 +1,8 @@
--- `script::print::put_moves` meets its contract. Assumes nothing.
+-- `print::put_moves` meets its contract. Assumes nothing.
 use borrow.Author.Needs.{needs}
-use Rattle.script.proofs.Printing.{moving}
-use Rattle.script.proofs.print.put_moves.Statement.{statement}
-use Rattle.script.proofs.print.put_moves.Tie as tie
+use Rattle.print.proofs.Printing.{moving}
+use Rattle.print.proofs.put_moves.Statement.{statement}
+use Rattle.print.proofs.put_moves.Tie as tie
 
 returns : tie.Need-returns
 returns c = record { put = search moving; short = search needs }

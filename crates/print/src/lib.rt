@@ -1,34 +1,54 @@
-// The answers as text in lent bytes.
+// What the script program prints: the lines that answer a request, as text in lent bytes.
 ghost use Prim.Native.Nat.{_+_, _≤_};
-ghost use mathlib.Core.List.{[], _∷_, _++_};
+ghost use mathlib.Core.List.{_++_};
 ghost use lib.ListN.{length};
 ghost use Rattle.moves.specs.Records.{listed};
 ghost use Rattle.refusals.specs.Refusal.{numberOf};
-ghost use Rattle.text.specs.Bytes.{bytes};
-ghost use Rattle.script.specs.Answers.{Printed, piece, lineOf, lineRefused, ringLine, closeLine, openLine, moveLine, moveLines};
-use lightpath::Place;
+ghost use Rattle.print.specs.Answers.{Printed, lineRefused, ringLine, closeLine, openLine, moveLine, moveLines};
+ghost use Rattle.print.specs.Filled.{filled, filledRoom};
 use moves::Move;
 use moves::Moves;
 use refusals::Refusal;
 use refusals::Verdict;
 use ring::Opening;
 
-// Words and a number.
-fn put_piece(out: &mut [u8], at: usize, words: &[u8], n: u32) -> usize
-    requires { ⌜ at + length (now words) + 10 ≤ length (now out) ⌝ }
-    ensures { λ r. ⌜ Printed (length (now (words .entry)) + 10) (now (out .entry)) at (piece (now (words .entry)) n) (now (out .exit)) r ⌝ }
+// The words of a line with a number in place of each `#`, up to four in their order.
+fn put_filled(
+    out: &mut [u8],
+    at: usize,
+    words: &[u8],
+    mut a: u32,
+    mut b: u32,
+    mut c: u32,
+    d: u32,
+) -> usize
+    requires { ⌜ at + filledRoom (now words) ≤ length (now out) ⌝ }
+    ensures { λ r. ⌜ Printed (filledRoom (now (words .entry))) (now (out .entry)) at (filled (now (words .entry)) a b c d) (now (out .exit)) r ⌝ }
 {
-    let next = text::put_text(out, at, words);
-    text::put_number(out, next, n)
+    let mut next = at;
+    let mut i: usize = 0;
+    while i < words.len() {
+        let byte = words[i];
+        i += 1;
+        if byte == b'#' {
+            next = text::put_number(out, next, a);
+            a = b;
+            b = c;
+            c = d;
+        } else {
+            next = text::put_byte(out, next, byte);
+        }
+    }
+    next
 }
 
-// Words and a number, and the line end.
-fn put_last(out: &mut [u8], at: usize, words: &[u8], n: u32) -> usize
-    requires { ⌜ at + length (now words) + 11 ≤ length (now out) ⌝ }
-    ensures { λ r. ⌜ Printed (length (now (words .entry)) + 11) (now (out .entry)) at (piece (now (words .entry)) n ++ bytes "\n") (now (out .exit)) r ⌝ }
+// The words of a line that names a refusal.
+fn put_refusal(out: &mut [u8], at: usize, words: &[u8], refusal: Refusal) -> usize
+    requires { ⌜ at + filledRoom (now words) ≤ length (now out) ⌝ }
+    ensures { λ r. ⌜ Printed (filledRoom (now (words .entry))) (now (out .entry)) at (filled (now (words .entry)) (numberOf refusal) 0 0 0) (now (out .exit)) r ⌝ }
 {
-    let next = put_piece(out, at, words, n);
-    text::put_text(out, next, b"\n")
+    let number = refusals::refusal_number(refusal);
+    put_filled(out, at, words, number as u32, 0, 0, 0)
 }
 
 // The line of a move.
@@ -38,9 +58,15 @@ fn put_move(out: &mut [u8], at: usize, m: Move) -> usize
 {
     let from = m.from;
     let to = m.to;
-    let a = put_piece(out, at, b"move ", m.number);
-    let b = put_piece(out, a, b" from ", from.0 as u32);
-    put_last(out, b, b" to ", to.0 as u32)
+    put_filled(
+        out,
+        at,
+        b"move # from # to #\n",
+        m.number,
+        from.0 as u32,
+        to.0 as u32,
+        0,
+    )
 }
 
 // The lines of the moves, in their order.
@@ -63,38 +89,29 @@ fn put_moves(out: &mut [u8], at: usize, moves: Moves) -> usize
     put_move(out, b, moves.third)
 }
 
-// The rest of an opening's line that names the place taken.
-fn put_taken(out: &mut [u8], at: usize, place: Place, moves: u8, looks: u16) -> usize
-    requires { ⌜ at + 52 ≤ length (now out) ⌝ }
-    ensures { λ r. ⌜ Printed 52 (now (out .entry)) at (lineOf ((" place ", place .0) ∷ (" moves ", moves) ∷ (" looks ", looks) ∷ [])) (now (out .exit)) r ⌝ }
-{
-    let a = put_piece(out, at, b" place ", place.0 as u32);
-    let b = put_piece(out, a, b" moves ", moves as u32);
-    put_last(out, b, b" looks ", looks as u32)
-}
-
-// The rest of a line that names a refusal.
-fn put_refusal(out: &mut [u8], at: usize, words: &[u8], refusal: Refusal) -> usize
-    requires { ⌜ at + length (now words) + 11 ≤ length (now out) ⌝ }
-    ensures { λ r. ⌜ Printed (length (now (words .entry)) + 11) (now (out .entry)) at (piece (now (words .entry)) (numberOf refusal) ++ bytes "\n") (now (out .exit)) r ⌝ }
-{
-    let number = refusals::refusal_number(refusal);
-    put_last(out, at, words, number as u32)
-}
-
 // An opening's line.
 fn put_open_line(out: &mut [u8], at: usize, number: u32, answer: Opening) -> usize
     requires { ⌜ at + 67 ≤ length (now out) ⌝ }
     ensures { λ r. ⌜ Printed 67 (now (out .entry)) at (openLine number answer) (now (out .exit)) r ⌝ }
 {
-    let next = put_piece(out, at, b"open ", number);
     match answer {
         Opening::Taken {
             place,
             moves,
             looks,
-        } => put_taken(out, next, place, moves, looks),
-        Opening::Refused(refusal) => put_refusal(out, next, b" refused ", refusal),
+        } => put_filled(
+            out,
+            at,
+            b"open # place # moves # looks #\n",
+            number,
+            place.0 as u32,
+            moves as u32,
+            looks as u32,
+        ),
+        Opening::Refused(refusal) => {
+            let reason = refusals::refusal_number(refusal);
+            put_filled(out, at, b"open # refused #\n", number, reason as u32, 0, 0)
+        }
     }
 }
 
@@ -113,8 +130,8 @@ pub fn put_closing(out: &mut [u8], at: usize, number: u32, verdict: Verdict) -> 
     ensures { λ r. ⌜ Printed 25 (now (out .entry)) at (closeLine number verdict) (now (out .exit)) r ⌝ }
 {
     match verdict {
-        Verdict::Granted => put_last(out, at, b"close ", number),
-        Verdict::Refused(refusal) => put_refusal(out, at, b"close refused ", refusal),
+        Verdict::Granted => put_filled(out, at, b"close #\n", number, 0, 0, 0),
+        Verdict::Refused(refusal) => put_refusal(out, at, b"close refused #\n", refusal),
     }
 }
 
@@ -124,11 +141,16 @@ pub fn put_ring(out: &mut [u8], at: usize, nodes: u8, wavelengths: u16, verdict:
     ensures { λ r. ⌜ Printed 39 (now (out .entry)) at (ringLine nodes wavelengths verdict) (now (out .exit)) r ⌝ }
 {
     match verdict {
-        Verdict::Granted => {
-            let next = put_piece(out, at, b"ring ", nodes as u32);
-            put_last(out, next, b" wavelengths ", wavelengths as u32)
-        }
-        Verdict::Refused(refusal) => put_refusal(out, at, b"ring refused ", refusal),
+        Verdict::Granted => put_filled(
+            out,
+            at,
+            b"ring # wavelengths #\n",
+            nodes as u32,
+            wavelengths as u32,
+            0,
+            0,
+        ),
+        Verdict::Refused(refusal) => put_refusal(out, at, b"ring refused #\n", refusal),
     }
 }
 
