@@ -30,8 +30,8 @@ extern "C" {
 enum ring_refusal {
     RING_NODE_COUNT = 1,      /* the number of nodes is not 3 to 64 */
     RING_PORT_COUNT = 2,      /* a node has more than 64 ports */
-    RING_PORT_SUM = 3,        /* there are more than 192 ports */
-    RING_CUT_SHORT = 30,      /* a field ends early; so does a form of no bytes */
+    RING_PORT_SUM = 3,        /* the port counts add up to more than 192 */
+    RING_CUT_SHORT = 30,      /* a field ends early, or there are no bytes */
     RING_BAD_FIELD = 31,      /* a bit that may not be set, or a written remark of 0 */
     RING_TRAILING_BYTES = 32, /* bytes after the last record */
     RING_BROKEN_FORM = 33,    /* a ring rule is broken */

@@ -1,4 +1,5 @@
-// Where a new circuit goes: steps 1 to 3 of document 01, by value, over the places of a ring of so many nodes below a limit.
+// Where a new circuit goes: steps 1 to 3 of document 01, by value, over the places of a ring of so many nodes below a limit;
+// and the places after a closing.
 
 ghost use mathlib.Core.Path.{_≡_};
 ghost use Prim.Native.Nat.{_<_};

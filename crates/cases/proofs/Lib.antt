@@ -1,1 +1,2 @@
+-- Document 01's cases hold.
 pub mod Cases

@@ -16,7 +16,8 @@ use Rattle.ring.specs.declared.RingTable.{RingTable}
 use Rattle.ring.specs.Making.{makeOf}
 use Rattle.ring.specs.Opening.{openOf, lentAfter}
 use Rattle.ring.specs.Closing.{closeOf}
-use Rattle.ring.specs.Answer.{Answer as Reply, refusal, openingAnswer, verdictAnswer}
+use Rattle.refusals.specs.Answer.{Answer as Reply, refusal, verdictAnswer}
+use Rattle.ring.specs.Answer.{openingAnswer}
 use Rattle.form.specs.Form.{formOf}
 
 -- what a case asks

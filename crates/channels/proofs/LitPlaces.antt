@@ -11,7 +11,7 @@ use Rattle.basis.proofs.Below.{count-same, first-same}
 use Rattle.slots.specs.Slot.{isLit, isUnlit}
 use Rattle.slots.specs.declared.Slot.{Slot}
 use Rattle.slots.specs.declared.Slot.the-variants.{Unlit as unlit, Alone as alone, Shared as shared}
-use Rattle.lit_words.specs.Lit.{litBit}
+use Rattle.lit_words.specs.Lit.{litBit, onesOf}
 use Rattle.lit_words.proofs.Words.{words-say}
 use Rattle.channels.specs.Channels.{Channels, at, litPlaces, litAt, litOf}
 
@@ -32,5 +32,6 @@ lit-all [] = refl
 lit-all (ch ∷ t) = ap (λ (n : ℕ). bit (isLit (ch .slot)) + n) (lit-all t)
 
 -- the words count the lit places of the table
-pub lit-places : (t : Channels) → length t ≡ 128 → countBelow 128 (litBit (litOf t)) ≡ litPlaces t
+pub lit-places : (t : Channels) → length t ≡ 128 → onesOf (litOf t) ≡ litPlaces t
+unfolding onesOf
 lit-places t e = count-same 128 (litBit (litOf t)) (litAt t) (words-say (litAt t)) ∙ ap (λ (n : ℕ). countBelow n (litAt t)) (sym e) ∙ lit-all t

@@ -25,6 +25,6 @@ nonsharing m t = aloneFrom 0 (take m (slots t))
 abbrev pub standingAt : Channels → ℕ → Standing
 standingAt t p = record { place = p; circuit = firstOf (at t p) }
 
--- two of them are adjacent
+-- the two circuits of a pair are adjacent
 abbrev pub adjacentPair : Standing × Standing → Bool
 adjacentPair p = adjacent (p .0 .circuit) (p .1 .circuit)

@@ -9,7 +9,7 @@ mod search;
 mod updates;
 
 pub use search::lit_of;
-pub use search::place_of;
+pub use search::where_is;
 pub use updates::changed;
 
 // A place of the table. (A field can be an array of structs that hold an enum, and not of enums.)

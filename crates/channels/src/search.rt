@@ -6,7 +6,7 @@ use crate::Channel;
 use lit_words::Lit;
 
 // The place of the circuit with a number, or 128 where none has it.
-pub fn place_of(channels: [Channel; 128], number: u32) -> usize
+pub fn where_is(channels: [Channel; 128], number: u32) -> usize
     ensures { λ r. ⌜ r ≡ whereIs channels number ⌝ }
 {
     let mut p: usize = 0;

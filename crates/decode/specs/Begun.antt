@@ -30,7 +30,7 @@ pub record Ported (b : List ℕ) (t : RingTable) : Type 0 where
   pub within : 1 + t .nodes ≤ length b
   pub table : t ≡ freshTable (length ports) ports
 
--- and then a map whose words are lit, with no bit at 2 × W or above
+-- and then a map with the words `lit`, no bit of it at 2 × W or above
 pub record Mapped (b : List ℕ) (t : RingTable) (lit : Lit) : Type 0 where
   pub ports : List ℕ
   pub read : readTable b ≡ andThen (readRecords (litBit lit) 128 0 (drop (17 + t .nodes) b)) (λ chs. do end; checked ports chs)

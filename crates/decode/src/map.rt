@@ -51,7 +51,7 @@ fn with_byte(word: u64, byte: u8) -> u64
     word * 256 + byte as u64
 }
 
-// Reads a word of the map at start: the 64 places from eight times first on, its bytes from the highest down.
+// Reads the word of the map that begins at `start`: of the 64 places from 8 × `first` on, its bytes from the highest down.
 fn read_word(form: &[u8], start: usize, first: usize) -> u64
     requires { ⌜ (start + 16 ≤ length (now form)) × (first ≤ 8) ⌝ }
     ensures { λ r. ⌜ r ≡ word (mapBit (take 16 (drop start (now (form .entry))))) 64 (8 * first) ⌝ }

@@ -2,20 +2,21 @@
 use Prim.Native.Nat.{ℕ, _+_, _≤_, _<_}
 use mathlib.Core.Path.{_≡_, _∙_}
 use mathlib.Core.Bool.{Bool, true, false, not}
-use mathlib.Core.List.{List, [], _++_}
+use mathlib.Core.List.{List, [], _∷_, _++_}
 use native.Mathlib.Nat.{zero-add}
 use native.Mathlib.Omega.{arith}
 use lib.ListN.{length, drop}
 use lib.Seq.{sets, sets-eq}
 use borrow.Author.Tests.{lt-ltb, le-ltb, not-true, not-false}
 use Rattle.rules.proofs.Rules.{rules-hold, limits-hold}
+use Rattle.refusals.specs.Answer.{refusal}
 use Rattle.refusals.specs.declared.Refusal.the-variants.{ShortBuffer, BrokenRule}
 use Rattle.ring.specs.Table.{meetsRules}
 use Rattle.ring.specs.declared.RingTable.{RingTable}
 use Rattle.text.specs.Put.{Room, Put}
 use Rattle.form.specs.Form.{formOf}
 use Rattle.encode.specs.declared.Written.the-variants.{Length, Refused}
-use Rattle.encode.specs.Answer.{writtenOf, bytesAfter}
+use Rattle.encode.specs.Answer.{writtenOf, writtenAnswer, bytesAfter}
 
 -- the table breaks a ring rule
 module _ (t : RingTable) (l : List ℕ) (v : Bool) (e : v ≡ meetsRules t) (h : not v ≡ true) where
@@ -60,6 +61,19 @@ module _ (t : RingTable) (l : List ℕ) (m : meetsRules t ≡ true) where
       form-over l1 i q =
           let w : sets l 0 (formOf t) ≡ [] ++ formOf t ++ drop (0 + length (formOf t)) l = sets-eq (formOf t) l 0 (omega arith) in
           rw (m, le-ltb (length l) (length (formOf t)) (omega arith)) (q .is ∙ w ∙ rw zero-add)
+
+-- in 01's numbers: 22, then 21, else the form's length
+pub write-unmet : (t : RingTable) (n : ℕ) → meetsRules t ≡ false → writtenAnswer (writtenOf t n) ≡ refusal 22
+unfolding writtenOf
+write-unmet t n h = rw h
+
+pub write-short : (t : RingTable) (n : ℕ) → meetsRules t ≡ true → n < length (formOf t) → writtenAnswer (writtenOf t n) ≡ refusal 21
+unfolding writtenOf
+write-short t n m k = rw (m, lt-ltb n (length (formOf t)) k)
+
+pub write-long : (t : RingTable) (n : ℕ) → meetsRules t ≡ true → length (formOf t) ≤ n → writtenAnswer (writtenOf t n) ≡ record { number = 0; values = length (formOf t) ∷ [] }
+unfolding writtenOf
+write-long t n m k = rw (m, le-ltb n (length (formOf t)) k)
 
 pub ruleset brokenRules = (broken, broken-kept, unbroken)
 

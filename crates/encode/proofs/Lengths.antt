@@ -8,20 +8,18 @@ use lib.ListN.{length, getD, drop, length-append, drop-of-length-le}
 use lib.Seq.{drop-cons}
 use borrow.Author.Tests.{eq-eqb, ne-eqb}
 use Rattle.basis.specs.Choice.{bit}
-use Rattle.basis.specs.Count.{countBelow}
 use Rattle.lightpath.specs.declared.Circuit.{Circuit}
 use Rattle.slots.specs.declared.Slot.{Slot}
 use Rattle.slots.specs.declared.Slot.the-variants.{Unlit as unlit, Alone as alone, Shared as shared}
 use Rattle.slots.specs.Slot.{isLit}
 use Rattle.lit_words.specs.declared.Lit.{Lit}
-use Rattle.lit_words.specs.Lit.{litBit}
+use Rattle.lit_words.specs.Lit.{onesOf}
 use Rattle.channels.specs.Channels.{Channels, unlitChannel, at, litPlaces, litOf}
 use Rattle.channels.proofs.LitPlaces.{lit-places}
 use Rattle.ring.specs.declared.RingTable.{RingTable}
 use Rattle.form.specs.Bytes.{fourBytes, twoBytes}
 use Rattle.form.specs.Form.{remarkBytes, circuitBytes, recordBytes, recordsBytes, formOf}
 use Rattle.form.proofs.Length.{form-length}
-use Rattle.encode.specs.Words.{onesOf}
 
 -- a circuit takes six bytes, and two more for a remark
 pub plain-long : (c : Circuit) → c .remark ≡ 0 → 6 ≡ length (circuitBytes c)
@@ -47,11 +45,6 @@ unfolding recordBytes
 shared-long s a b n m e g h = rw e (omega (arith, length-append (circuitBytes a) (circuitBytes b)))
 
 pub ruleset lengths = (plain-long, remark-long, unlit-long, alone-long, shared-long)
-
--- the ones of the words are the lit places
-ones-are : (chs : Channels) → length chs ≡ 128 → onesOf (litOf chs) ≡ litPlaces chs
-unfolding onesOf
-ones-are chs e = lit-places chs e
 
 -- the circuits of the places below p take sum bytes
 pub record Measured (chs : Channels) (p sum : ℕ) : Type 0 where
@@ -79,14 +72,9 @@ module _ (chs : Channels) where
     measured-all e h =
         let k : length chs ≤ p = omega arith in
         let z : drop p chs ≡ [] = drop-of-length-le chs k in
-        omega (arith, q .is, ones-are chs e, ap litPlaces z, ap (λ (x : Channels). length (recordsBytes x)) z)
+        omega (arith, q .is, lit-places chs e, ap litPlaces z, ap (λ (x : Channels). length (recordsBytes x)) z)
 
 pub ruleset measured = (measured-none, measured-next, measured-all)
-
--- the ones that were counted
-counted : (lit : Lit) (ones : ℕ) → ones ≡ countBelow 128 (litBit lit) → ones ≡ onesOf lit
-unfolding onesOf
-counted lit ones c = c
 
 -- the form is N, the ports, the map, a byte for each lit place and the circuits
 sum : (t : RingTable) (ones n : ℕ) → length (t .ports) ≡ 64 → t .nodes ≤ 64 → ones ≡ onesOf (litOf (t .channels))
@@ -94,5 +82,5 @@ sum : (t : RingTable) (ones n : ℕ) → length (t .ports) ≡ 64 → t .nodes �
 sum t ones n e h g m = omega (arith, form-length t (omega arith))
 
 pub form-long : (t : RingTable) (lit : Lit) (ones n : ℕ) → length (t .ports) ≡ 64 → t .nodes ≤ 64 → lit ≡ litOf (t .channels)
-    → ones ≡ countBelow 128 (litBit lit) → n + onesOf (litOf (t .channels)) ≡ length (recordsBytes (t .channels)) → 17 + t .nodes + ones + n ≡ length (formOf t)
-form-long t lit ones n e h g c m = sum t ones n e h (counted lit ones c ∙ rw g) m
+    → ones ≡ onesOf lit → n + onesOf (litOf (t .channels)) ≡ length (recordsBytes (t .channels)) → 17 + t .nodes + ones + n ≡ length (formOf t)
+form-long t lit ones n e h g c m = sum t ones n e h (c ∙ rw g) m

@@ -4,7 +4,8 @@ use mathlib.Core.Bool.{not}
 use mathlib.Core.List.{List, [], _∷_, _++_}
 use lib.Dec.{ltb}
 use lib.ListN.{length, drop}
-use Rattle.refusals.specs.Refusal.{Cause, _if_, judged}
+use Rattle.refusals.specs.Refusal.{numberOf, Cause, _if_, judged}
+use Rattle.refusals.specs.Answer.{Answer, refusal}
 use Rattle.refusals.specs.declared.Refusal.the-variants.{ShortBuffer, BrokenRule}
 use Rattle.refusals.specs.declared.Verdict.{Verdict}
 use Rattle.refusals.specs.declared.Verdict.the-variants.{Granted as granted, Refused as refused}
@@ -25,6 +26,11 @@ writtenBy t (refused r) = Refused r
 
 unfoldable pub writtenOf : RingTable → ℕ → Written
 writtenOf t n = writtenBy t (judged (writeCauses t n))
+
+-- 01's number and values of each answer: the form's length, or the refusal's number alone
+abbrev pub writtenAnswer : Written → Answer
+writtenAnswer (Length n) = record { number = 0; values = n ∷ [] }
+writtenAnswer (Refused r) = refusal (numberOf r)
 
 -- and leaves the lent bytes after the form; on a refusal all of them
 abbrev pub bytesBy : RingTable → List ℕ → Verdict → List ℕ

@@ -1,9 +1,7 @@
 -- The map by its words: what writing makes of the lit places. Assumes nothing.
 use Prim.Native.Nat.{ℕ, zero, suc, _/_, _%_}
 use mathlib.Core.List.{List, [], _∷_, _++_}
-use Rattle.basis.specs.Count.{countBelow}
 use Rattle.lit_words.specs.declared.Lit.{Lit}
-use Rattle.lit_words.specs.Lit.{litBit}
 
 -- the k lowest bytes of w, lowest first
 unfoldable pub lowFirst : ℕ → ℕ → List ℕ
@@ -13,7 +11,3 @@ lowFirst (suc k) w = w % 256 ∷ lowFirst k (w / 256)
 -- the words of the lit places, the low one first
 unfoldable pub wordsBytes : Lit → List ℕ
 wordsBytes lit = lowFirst 8 (lit .low) ++ lowFirst 8 (lit .high)
-
--- their ones
-unfoldable pub onesOf : Lit → ℕ
-onesOf lit = countBelow 128 (litBit lit)

@@ -7,7 +7,7 @@ ghost use Rattle.basis.specs.Choice.{bit};
 ghost use Rattle.slots.specs.Slot.{isLit};
 ghost use Rattle.channels.specs.Channels.{litOf};
 ghost use Rattle.form.specs.Form.{circuitBytes, recordBytes, recordsBytes, formOf};
-ghost use Rattle.encode.specs.Words.{onesOf};
+ghost use Rattle.lit_words.specs.Lit.{onesOf};
 use channels::Channel;
 use lightpath::Circuit;
 use lit_words::Lit;

@@ -50,6 +50,6 @@ recordsBytes (ch ∷ chs) = recordBytes (ch .slot) ++ recordsBytes chs
 abbrev pub portsBytes : RingTable → List ℕ
 portsBytes t = take (t .nodes) (t .ports)
 
--- N, the ports, the map of 16 bytes, the records
+-- N, the ports, the map of 16 bytes, the records; at most 1,745 bytes
 unfoldable pub formOf : RingTable → List ℕ
 formOf t = t .nodes ∷ (portsBytes t ++ (mapBytes (litAt (t .channels)) 16 0 ++ recordsBytes (t .channels)))

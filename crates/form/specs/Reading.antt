@@ -58,10 +58,10 @@ readRemark true = do
 unfoldable pub readCircuit : Bool → Reader Circuit
 readCircuit remarked = do
   n ← bytes 4
-  from ← byte
-  to ← byte
+  source ← byte
+  destination ← byte
   r ← readRemark remarked
-  give (record { number = numberIn n; source = from; destination = to; remark = r })
+  give (record { number = numberIn n; source = source; destination = destination; remark = r })
 
 -- bits 3 to 7 are zero, and bit 2 doesn't stand without bit 1
 unfoldable pub mapHolds : ℕ → Bool

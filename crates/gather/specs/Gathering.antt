@@ -4,7 +4,7 @@ use mathlib.Core.Path.{_≡_}
 use mathlib.Core.List.{List}
 use lib.ListN.{length, take}
 
--- the first count elements of an array are a list, which is count long, and at most so long
+-- the first `count` elements of the array are the list, which is that long, at most `most`; what stands after them in the array is free
 pub record Gathers {A : Type 0} (most : ℕ) (array : List A) (count : ℕ) (list : List A) : Type 0 where
   pub are : take count array ≡ list
   pub counted : length list ≡ count

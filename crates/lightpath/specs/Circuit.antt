@@ -1,8 +1,10 @@
 -- 01, "The ring": circuits on a ring of N nodes, their hops and links, and which two can share. Assumes nothing.
 use Prim.Native.Nat.{ℕ, _+_, _-_, _%_}
 use mathlib.Core.Bool.{Bool, _&&_, _||_, not}
+use mathlib.Core.List.{List}
 use lib.Dec.{eqb, leb, ltb}
-use Rattle.basis.specs.Choice.{pick}
+use Rattle.basis.specs.Choice.{pick, bit}
+use Rattle.basis.specs.Count.{weigh}
 use Rattle.lightpath.specs.Place.{Direction, clockwise, counterclockwise}
 pub use Rattle.lightpath.specs.declared.Circuit.{Circuit}
 
@@ -22,20 +24,26 @@ joins N c = onRing N (c .source) && onRing N (c .destination) && not (eqb (c .so
 unfoldable pub ahead : ℕ → ℕ → ℕ → ℕ
 ahead N s x = (x + N - s) % N
 
--- its hops are (destination − source) modulo N
+-- its hops are (destination − source) modulo N, from 1 to N − 1
 abbrev pub hops : ℕ → Circuit → ℕ
 hops N c = ahead N (c .source) (c .destination)
 
--- clockwise it uses that many links from its source on; counterclockwise it uses the others
+-- link i joins node i to the next clockwise, link N joins N to 1. Clockwise a circuit uses as many links as hops from its source on;
+-- counterclockwise it uses the others
 abbrev pub uses : ℕ → Direction → Circuit → ℕ → Bool
 uses N clockwise c l = ltb (ahead N (c .source) l) (hops N c)
 uses N counterclockwise c l = not (ltb (ahead N (c .source) l) (hops N c))
+
+-- how many of some lightpaths of direction d use link l
+unfoldable pub users : ℕ → Direction → ℕ → List Circuit → ℕ
+users N d l cs = weigh (λ c. bit (uses N d c l)) cs
 
 -- two circuits are adjacent when the destination of one is the source of the other
 abbrev pub adjacent : Circuit → Circuit → Bool
 adjacent a b = eqb (a .destination) (b .source) || eqb (b .destination) (a .source)
 
--- an adjacent pair can share clockwise when their hops total at most N, otherwise counterclockwise
+-- an adjacent pair can share clockwise when their hops total at most N, otherwise counterclockwise (Lemma 1; a total of exactly N counts
+-- as clockwise only)
 abbrev pub canShare : ℕ → Direction → Circuit → Circuit → Bool
 canShare N clockwise a b = adjacent a b && leb (hops N a + hops N b) N
 canShare N counterclockwise a b = adjacent a b && ltb N (hops N a + hops N b)

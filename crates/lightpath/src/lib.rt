@@ -1,5 +1,5 @@
 // The geometry of the ring: directions, wavelengths and places, and circuits on it. A node, a link and a port count are bytes;
-// only a ring of no nodes is asked away, since hops are counted modulo the number of nodes.
+// what counts hops asks for at least one node, since hops are counted modulo the number of nodes.
 
 ghost use mathlib.Core.Path.{_≡_};
 ghost use Prim.Native.Nat.{_+_, _*_, _<_};
@@ -18,7 +18,7 @@ pub struct Wavelength(pub u8);
 // A directed wavelength number, which document 01 calls a place: it counts both directions.
 pub struct Place(pub u8);
 
-// A circuit from one node to another. A remark of 0 is none.
+// A circuit from one node to another. Several may join the same nodes; a remark of 0 is none.
 pub struct Circuit {
     pub number: u32,
     pub source: u8,

@@ -18,7 +18,7 @@ pub record Next (limit : ℕ) (b : List ℕ) (at n next : ℕ) : Type 0 where
   pub ahead : at + 2 ≤ next
   pub within : next ≤ length b
 
--- what is answered of it is so; where it is not read, it is no number below the limit
+-- a word that is read is so; where none is read, the next word, if there is one, is no number below the limit
 abbrev pub FieldAt : ℕ → List ℕ → ℕ → Field → Type 0
 FieldAt limit b at (Read n next) = Next limit b at n next
 FieldAt limit b at Unread = ((w : List ℕ) (ws : List (List ℕ)) → otherWords (drop at b) ≡ w ∷ ws → number limit w ≡ Missing)

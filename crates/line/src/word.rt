@@ -43,7 +43,7 @@ pub enum Field {
     Unread,
 }
 
-// Reads the word after the one that ends at a position, as a number of at most the most.
+// Reads the word after the one that ends at a position, as a number of at most `most`.
 pub fn read_field(line: &[u8], at: usize, most: u32) -> Field
     ensures { λ r. ⌜ FieldAt (most + 1) (now (line .entry)) at r ⌝ }
 {

@@ -14,7 +14,7 @@ use Rattle.basis.specs.Choice.{bit}
 use Rattle.basis.specs.Count.{countBelow}
 use Rattle.basis.specs.Search.{firstBelow}
 use Rattle.basis.proofs.Below.{count-same, first-same, count-sum, first-bound, first-sum}
-use Rattle.lit_words.specs.Lit.{Lit, bitOf, word, litBit, wordsOf, under, Room}
+use Rattle.lit_words.specs.Lit.{Lit, bitOf, word, litBit, wordsOf, under, RoomUnder}
 use Rattle.lit_words.proofs.Bits.{ones-count, trailing-first, word-lt, word-bit}
 
 -- place p of the lower 64 is bit p of the low word
@@ -110,7 +110,7 @@ module _ {f : ℕ → Bool} where
 
   module _ (p : ℕ) (l : Lit) (q : Built f p l) (h : 0 < p) where
     -- there is room for one place more
-    pub built-room : Room l (p - 1)
+    pub built-room : RoomUnder l (p - 1)
     built-room = record {
       low = λ k. let m : 64 - p ≤ 63 = omega arith in omega (arith, q .low-word, word-lt f (64 - p) p, pow-mono m);
       high = λ k.

@@ -2,9 +2,8 @@
 
 ghost use mathlib.Core.Path.{_≡_};
 ghost use mathlib.Core.Bool.{not};
-ghost use Rattle.basis.specs.Count.{countBelow};
 ghost use Rattle.basis.specs.Search.{firstBelow};
-ghost use Rattle.lit_words.specs.Lit.{litBit, under, Room};
+ghost use Rattle.lit_words.specs.Lit.{litBit, onesOf, under, RoomUnder};
 
 // The lit places: place p is bit p of low, or bit p - 64 of high.
 pub struct Lit {
@@ -15,7 +14,7 @@ pub struct Lit {
 impl Lit {
     // How many places are lit.
     pub fn count(self) -> u32
-        ensures { λ r. ⌜ r ≡ countBelow 128 (litBit self) ⌝ }
+        ensures { λ r. ⌜ r ≡ onesOf self ⌝ }
     {
         u64::count_ones(self.low) + u64::count_ones(self.high)
     }
@@ -31,9 +30,9 @@ impl Lit {
         64 + u64::trailing_zeros(!self.high)
     }
 
-    // The words with one more place, which is below all that its word has: each of those goes one bit up.
+    // The words with one place more, which is below every place that its word has: it becomes bit 0 there, and the others move up by one.
     pub fn under(self, place: usize, lit: bool) -> Lit
-        requires { ⌜ Room self place ⌝ }
+        requires { ⌜ RoomUnder self place ⌝ }
         ensures { λ r. ⌜ r ≡ under self place lit ⌝ }
     {
         let bit = lit as u64;

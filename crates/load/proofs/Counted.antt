@@ -8,14 +8,14 @@ use mir.Val.{boolByte}
 use Rattle.basis.specs.Choice.{bit}
 use Rattle.basis.proofs.Weigh.{weigh-append}
 use Rattle.lightpath.specs.Place.{placeOf}
-use Rattle.lightpath.specs.Circuit.{uses}
+use Rattle.lightpath.specs.Circuit.{uses, users}
 use Rattle.lightpath.specs.declared.Circuit.{Circuit}
 use Rattle.lightpath.specs.declared.Direction.{Direction}
 use Rattle.slots.specs.Slot.{held}
 use Rattle.slots.specs.declared.Slot.{Slot}
 use Rattle.slots.specs.declared.Slot.the-variants.{Alone as alone, Shared as shared}
 use Rattle.channels.specs.Channels.{Channels, at}
-use Rattle.load.specs.Load.{lightpathsBelow, users, linkLoad}
+use Rattle.load.specs.Load.{lightpathsBelow, linkLoad}
 
 -- a test as a byte is at most 1
 pub byte-most : (x : Bool) → boolByte x ≤ 1

@@ -11,7 +11,7 @@ use Rattle.basis.specs.Count.{All}
 use Rattle.basis.proofs.Bools.{all-join}
 use Rattle.basis.proofs.Weigh.{weigh-append}
 use Rattle.lightpath.specs.Place.{placeOf}
-use Rattle.lightpath.specs.Circuit.{uses}
+use Rattle.lightpath.specs.Circuit.{uses, users}
 use Rattle.lightpath.specs.declared.Direction.{Direction}
 use Rattle.lightpath.specs.declared.Direction.the-variants.{Clockwise as clockwise, Counterclockwise as counterclockwise}
 use Rattle.lightpath.proofs.Places.{direction-place}
@@ -24,7 +24,7 @@ use Rattle.rules.proofs.Rules.{Rules, rules-hold}
 use Rattle.rules.proofs.Fits.{rules-links}
 use Rattle.ring.specs.Table.{meetsRules}
 use Rattle.ring.specs.declared.RingTable.{RingTable}
-use Rattle.load.specs.Load.{lightpathsBelow, users, linkLoad, loadsTo, loads}
+use Rattle.load.specs.Load.{lightpathsBelow, linkLoad, loadsTo, loads}
 
 -- the lightpaths over link l in direction d
 module _ (N : ℕ) (ks : List ℕ) (t : Channels) (rules : Rules N ks t) (d : Direction) (l : ℕ) (low : 1 ≤ l) (high : l ≤ N) where

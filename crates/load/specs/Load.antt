@@ -1,10 +1,8 @@
 -- 01, "Load and link": the load of a link, over the places t of a ring of N nodes. Assumes nothing.
 use Prim.Native.Nat.{ℕ, zero, suc}
 use mathlib.Core.List.{List, [], _∷_, _++_}
-use Rattle.basis.specs.Choice.{bit}
-use Rattle.basis.specs.Count.{weigh}
 use Rattle.lightpath.specs.Place.{placeOf}
-use Rattle.lightpath.specs.Circuit.{uses}
+use Rattle.lightpath.specs.Circuit.{users}
 use Rattle.lightpath.specs.declared.Circuit.{Circuit}
 use Rattle.lightpath.specs.declared.Direction.{Direction}
 use Rattle.lightpath.specs.declared.Direction.the-variants.{Clockwise as clockwise, Counterclockwise as counterclockwise}
@@ -19,10 +17,6 @@ lightpathsBelow (suc w) t d = lightpathsBelow w t d ++ held (at t (placeOf w d))
 -- the 128 places are 64 wavelengths each way
 abbrev pub lightpaths : Channels → Direction → List Circuit
 lightpaths t d = lightpathsBelow 64 t d
-
--- how many of some lightpaths of direction d use link l
-unfoldable pub users : ℕ → Direction → ℕ → List Circuit → ℕ
-users N d l cs = weigh (λ c. bit (uses N d c l)) cs
 
 -- the load of link l in direction d: the number of lightpaths over it
 abbrev pub linkLoad : ℕ → Channels → Direction → ℕ → ℕ

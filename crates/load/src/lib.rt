@@ -9,7 +9,8 @@ ghost use Rattle.lightpath.specs.Place.{placeOf};
 ghost use Rattle.slots.specs.Slot.{held};
 ghost use Rattle.channels.specs.Channels.{at};
 ghost use Rattle.ring.specs.Table.{meetsRules};
-ghost use Rattle.load.specs.Load.{users, linkLoad, loads};
+ghost use Rattle.lightpath.specs.Circuit.{users};
+ghost use Rattle.load.specs.Load.{linkLoad, loads};
 ghost use Rattle.load.specs.Report.{reportOf, bufferAfter};
 use channels::Channel;
 use lightpath::Direction;
@@ -34,7 +35,7 @@ fn users(nodes: u8, direction: Direction, link: u8, slot: Slot) -> u8
 }
 
 // How many lightpaths of a wavelength in a direction use a link.
-fn carried(
+fn users_on(
     nodes: u8,
     channels: [Channel; 128],
     wavelength: u8,
@@ -57,7 +58,7 @@ fn link_load(nodes: u8, channels: [Channel; 128], direction: Direction, link: u8
     let mut sum: u8 = 0;
     let mut w: u8 = 0;
     while w < 64 {
-        sum += carried(nodes, channels, w, direction, link);
+        sum += users_on(nodes, channels, w, direction, link);
         w += 1;
     }
     sum

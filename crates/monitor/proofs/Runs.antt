@@ -11,7 +11,7 @@ use Rattle.basis.specs.Count.{weigh, All}
 use Rattle.basis.proofs.Bools.{all-map}
 use Rattle.basis.proofs.Weigh.{weigh-zero}
 use Rattle.lightpath.specs.Place.{sideOf, placeOf}
-use Rattle.lightpath.specs.Circuit.{uses}
+use Rattle.lightpath.specs.Circuit.{uses, users}
 use Rattle.lightpath.specs.declared.Circuit.{Circuit}
 use Rattle.lightpath.specs.declared.Direction.{Direction}
 use Rattle.lightpath.specs.declared.Direction.the-variants.{Clockwise as clockwise, Counterclockwise as counterclockwise}
@@ -60,6 +60,7 @@ module _ (t : RingTable) (meets : meetsRules t ≡ true) (l w : ℕ) (d : Direct
 
   -- at most one of them uses link l
   pub one-runs : weigh (λ c. bit (uses (t .nodes) d c l)) there ≤ 1
+  unfolding users
   one-runs =
       rw (direction-place w d) at
       (rules-links (t .nodes) (t .ports) (t .channels) (rules-hold (t .nodes) (t .ports) (t .channels) meets) (placeOf w d) l low high)

@@ -1,5 +1,5 @@
 -- 01, "Load and link": the one-link question of a ring table: link l, wavelength w and direction d, each a number. It gives a 64-bit
--- number: a circuit's number has 32 bits, and what stands above those is no circuit. Assumes nothing.
+-- number: below 4,294,967,296 a circuit's number, from there on none or a refusal. Assumes nothing.
 use Prim.Native.Nat.{ℕ, _+_, _≤_, _<_}
 use mathlib.Core.Bool.{not}
 use mathlib.Core.List.{List, [], _∷_}

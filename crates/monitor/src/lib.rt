@@ -107,7 +107,7 @@ fn link_of(table: RingTable, link: u64, wavelength: u64, direction: u64) -> u64
     }
 }
 
-// The circuit on a link, on a wavelength in a direction, of the ring whose saved form is given; NONE where no circuit runs there; NONE and
+// The circuit on a link, on a wavelength in a direction, of the ring whose saved form is given; NONE where no circuit runs there; NONE plus
 // the number of the refusal where the question is refused.
 #[no_mangle]
 pub extern "C" fn ring_link(form: &[u8], link: u64, wavelength: u64, direction: u64) -> u64

@@ -1,7 +1,6 @@
 -- Move records, and the moves of an answer as a list. Assumes nothing.
-use Prim.Native.Nat.{ℕ}
 use mathlib.Core.List.{List, [], _∷_}
-use lib.ListN.{take, getD}
+use lib.ListN.{take}
 use Rattle.moves.specs.declared.Move.{Move}
 use Rattle.moves.specs.declared.Moves.{Moves}
 
@@ -28,7 +27,3 @@ three m n o = record { count = 3; first = m; second = n; third = o }
 -- the moves of an answer, in their order: as many of the three as its count says, and all of them where it says more
 abbrev pub listed : Moves → List Move
 listed a = take (a .count) (a .first ∷ a .second ∷ a .third ∷ [])
-
--- the move at a position, which counts from 0; a blank record past the last move
-abbrev pub moveAt : Moves → ℕ → Move
-moveAt a i = getD (listed a) i blank

@@ -2,7 +2,7 @@
 
 use lightpath::Place;
 ghost use mathlib.Core.Path.{_≡_};
-ghost use Rattle.moves.specs.Records.{none, one, two, three, moveAt};
+ghost use Rattle.moves.specs.Records.{none, one, two, three};
 ghost use Rattle.moves.specs.Lent.{blanks, written};
 
 // One move of a running circuit: its number, its old place and its new one.
@@ -74,25 +74,6 @@ impl Moves {
             second: n,
             third: o,
         }
-    }
-
-    // The move at a position, which counts from 0; a blank record past the last move.
-    pub fn at(self, i: usize) -> Move
-        ensures { λ r. ⌜ r ≡ moveAt self i ⌝ }
-    {
-        if i >= self.count as usize {
-            return BLANK;
-        }
-        if i == 0 {
-            return self.first;
-        }
-        if i == 1 {
-            return self.second;
-        }
-        if i == 2 {
-            return self.third;
-        }
-        BLANK
     }
 }
 

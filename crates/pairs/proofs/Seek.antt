@@ -16,8 +16,8 @@ use Rattle.channels.specs.Channels.{Channels}
 use Rattle.channels.specs.Nonsharing.{adjacentPair}
 use Rattle.channels.specs.declared.Standing.{Standing}
 use Rattle.gather.specs.Gathering.{Gathers}
-use Rattle.steps.specs.Steps.{newcomer, candidates, passed}
-use Rattle.pairs.specs.Pairs.{Pair, blankStanding, passedIn, firstPair, pairOf}
+use Rattle.steps.specs.Steps.{newcomer, candidates, passed, passedIn}
+use Rattle.pairs.specs.Pairs.{Pair, blankStanding, firstPair, pairOf}
 
 -- one more is stored after the list that an array holds
 pub gathers-more : {A : Type 0} {most count : ℕ} {array list : List A} (room : ℕ) (x : A) → length array ≡ room → most < room

@@ -2,14 +2,13 @@
 use Prim.Native.Nat.{ℕ, suc}
 use mathlib.Core.List.{List}
 use lib.ListN.{take, getD}
-use Rattle.basis.specs.Search.{firstPlace, pairsOf}
+use Rattle.basis.specs.Search.{pairsOf}
 use Rattle.lightpath.specs.Circuit.{blankCircuit}
 use Rattle.lightpath.specs.declared.Circuit.{Circuit}
 use Rattle.channels.specs.Channels.{Channels}
-use Rattle.channels.specs.Nonsharing.{adjacentPair}
 use Rattle.channels.specs.declared.Standing.{Standing}
 use Rattle.gather.specs.declared.Candidates.{Candidates}
-use Rattle.steps.specs.Steps.{foundPair, looks}
+use Rattle.steps.specs.Steps.{passedIn, foundPair, looks}
 pub use Rattle.pairs.specs.declared.Pair.{Pair}
 
 -- all fields zero
@@ -20,11 +19,7 @@ blankStanding = record { place = 0; circuit = blankCircuit }
 abbrev pub candidateList : Candidates → List Standing
 candidateList all = take (all .count) (all .list)
 
--- how many pairs of a list are tested before the first adjacent one
-abbrev pub passedIn : List Standing → ℕ
-passedIn l = firstPlace adjacentPair (pairsOf l)
-
--- and that pair
+-- the first adjacent pair of a list
 abbrev pub pairIn : List Standing → Standing × Standing
 pairIn l = getD (pairsOf l) (passedIn l) (blankStanding, blankStanding)
 

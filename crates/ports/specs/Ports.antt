@@ -7,11 +7,11 @@ use lib.Dec.{eqb, leb}
 use lib.ListN.{getD, drop}
 use Rattle.basis.specs.Count.{total}
 
--- W is K / 3 rounded up, K the sum of all k_i
+-- W is K / 3 rounded up, K the sum of all k_i; K = 0 is allowed, with W = 0
 abbrev pub wavelengths : List ℕ → ℕ
 wavelengths ks = (total ks + 2) / 3
 
--- places from 2 × W up stay unlit
+-- 2 × W, the limit: places from there up stay unlit
 abbrev pub limitOf : List ℕ → ℕ
 limitOf ks = 2 * wavelengths ks
 
@@ -20,7 +20,7 @@ abbrev pub eachAtMost : ℕ → List ℕ → Bool
 eachAtMost m [] = true
 eachAtMost m (k ∷ ks) = leb k m && eachAtMost m ks
 
--- the ports of node i, which counts from 1
+-- node i, which counts from 1, has k_i transmitters and k_i receivers
 abbrev pub portsAt : List ℕ → ℕ → ℕ
 portsAt ks zero = 0
 portsAt ks (suc j) = getD ks j 0

@@ -1,4 +1,4 @@
--- What is printed to a request: document 01, "The script program and its cases". Assumes nothing.
+-- What is printed in answer to a request: document 01, "The script program and its cases". Assumes nothing.
 use Prim.Native.Nat.{ℕ, _+_, _≤_}
 use Prim.Native.String.{String}
 use mathlib.Core.List.{List, [], _∷_, _++_}

@@ -1,3 +1,3 @@
--- What is printed to a request, as bytes.
+-- What is printed in answer to a request, as bytes.
 pub mod Answers
 pub mod Filled

@@ -42,7 +42,7 @@ fn put_filled(
     next
 }
 
-// The words of a line that names a refusal.
+// The words of a line, with the refusal's number in place of `#`.
 fn put_refusal(out: &mut [u8], at: usize, words: &[u8], refusal: Refusal) -> usize
     requires { ⌜ at + filledRoom (now words) ≤ length (now out) ⌝ }
     ensures { λ r. ⌜ Printed (filledRoom (now (words .entry))) (now (out .entry)) at (filled (now (words .entry)) (numberOf refusal) 0 0 0) (now (out .exit)) r ⌝ }
@@ -154,7 +154,7 @@ pub fn put_ring(out: &mut [u8], at: usize, nodes: u8, wavelengths: u16, verdict:
     }
 }
 
-// The line of a line that is refused.
+// The line that answers a refused line.
 pub fn put_line_refused(out: &mut [u8], at: usize) -> usize
     requires { ⌜ at + 13 ≤ length (now out) ⌝ }
     ensures { λ r. ⌜ Printed 13 (now (out .entry)) at lineRefused (now (out .exit)) r ⌝ }

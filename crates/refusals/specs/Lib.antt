@@ -1,2 +1,3 @@
--- The refusals and their numbers.
+-- The refusals, their numbers, and answers as numbers and values.
 pub mod Refusal
+pub mod Answer

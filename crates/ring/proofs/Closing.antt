@@ -16,7 +16,7 @@ use Rattle.refusals.specs.declared.Refusal.the-variants.{NotLive, BrokenRule}
 use Rattle.refusals.specs.declared.Verdict.the-variants.{Granted as granted, Refused as refused}
 use Rattle.ring.specs.Table.{RingTable, meetsRules, withChannels}
 use Rattle.ring.specs.Closing.{Answered, closedBy, closeOf}
-use Rattle.ring.specs.Answer.{refusal, verdictAnswer}
+use Rattle.refusals.specs.Answer.{refusal, verdictAnswer}
 use Rattle.ring.proofs.Live.{live-where}
 
 -- from the table t to the one answered the circuit of number n is taken off, and nothing else is changed

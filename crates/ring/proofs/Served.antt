@@ -29,7 +29,8 @@ use Rattle.refusals.specs.declared.Verdict.{Verdict}
 use Rattle.refusals.specs.declared.Verdict.the-variants.{Granted as granted, Refused as refused}
 use Rattle.ring.specs.Table.{RingTable, meetsRules}
 use Rattle.ring.specs.Opening.{Decision, surveyed, requestCauses, openCauses, served, refusing, decidedBy, decideOf}
-use Rattle.ring.specs.Answer.{Answer, openingAnswer}
+use Rattle.refusals.specs.Answer.{Answer}
+use Rattle.ring.specs.Answer.{openingAnswer}
 use Rattle.ring.proofs.Causes.{granted-rest, allowable}
 
 -- the answer of the steps for a request

@@ -20,7 +20,8 @@ use Rattle.steps.specs.Kept.{moved, Names}
 use Rattle.assign.specs.Assigned.{assignedOf}
 use Rattle.ring.specs.Table.{RingTable, meetsRules}
 use Rattle.ring.specs.Opening.{Opening, Opened}
-use Rattle.ring.specs.Answer.{refusal, openingAnswer}
+use Rattle.refusals.specs.Answer.{refusal}
+use Rattle.ring.specs.Answer.{openingAnswer}
 
 -- a number of document 01, and whether its cause is there
 pub record Reason : Type 0 where

@@ -1,4 +1,4 @@
--- The definitions of the ring table: its causes of refusal, its calls, their answers in numbers, and demand 3.
+-- The definitions of the ring table: the table, making, opening and closing, an opening's answer in numbers, and demand 3.
 pub mod Table
 pub mod Making
 pub mod Opening

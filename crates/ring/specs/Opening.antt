@@ -28,10 +28,6 @@ pub use Rattle.ring.specs.declared.Opened.{Opened}
 pub use Rattle.ring.specs.declared.Decision.{Decision}
 pub use Rattle.ring.specs.declared.Listed.{Listed}
 
--- what the places of the table say to a new circuit
-abbrev pub surveyed : RingTable → Circuit → Survey
-surveyed t c = surveyOf (t .nodes) (limitOf (t .ports)) (t .channels) c
-
 -- what a request is refused for: 10, 11, 12, 13, 14
 abbrev pub requestCauses : RingTable → Circuit → List Cause
 requestCauses t c =
@@ -65,7 +61,7 @@ decidedBy t c (refused r) = refusing t r
 unfoldable pub decideOf : RingTable → Circuit → ℕ → Decision
 decideOf t c n = decidedBy t c (judged ((BrokenRule if not (meetsRules t)) ∷ openCauses t c n))
 
--- the table and the answer, and the lent list afterwards
+-- the table goes in whole and comes back whole with the answer; and the lent list afterwards
 abbrev pub openOf : RingTable → Circuit → List Move → Opened
 openOf t c lent = decideOf t c (length lent) .opened
 
@@ -75,3 +71,7 @@ lentAfter t c lent = written lent (decideOf t c (length lent) .moves)
 -- an opening that is lent three blank records
 abbrev pub listedOf : RingTable → Circuit → Listed
 listedOf t c = record { opened = openOf t c blanks; list = lentAfter t c blanks }
+
+-- what an opening goes by: the survey of the table's places for a new circuit
+abbrev pub surveyed : RingTable → Circuit → Survey
+surveyed t c = surveyOf (t .nodes) (limitOf (t .ports)) (t .channels) c

@@ -1,4 +1,4 @@
--- 01, "The ring": the ring table. Assumes nothing.
+-- 01, "The ring": the ring table. Tables are equal when they agree in every field. Assumes nothing.
 use Prim.Native.Nat.{ℕ, _-_}
 use mathlib.Core.Bool.{Bool}
 use mathlib.Core.List.{List, _++_}

@@ -18,7 +18,7 @@ impl RingTable {
         let nodes = self.nodes;
         let ports = self.ports;
         let channels = self.channels;
-        let place = channels::place_of(channels, number);
+        let place = channels::where_is(channels, number);
         if 128 <= place {
             return Answered {
                 table: self,

@@ -8,12 +8,11 @@ use native.Mathlib.Decide.{decLt}
 use native.Mathlib.Omega.{arith}
 use lib.Dec.{eqb, ltb}
 use borrow.Author.Tests.{ltb-true, ltb-false, lt-ltb}
-use Rattle.basis.specs.Choice.{pick, bit}
-use Rattle.basis.specs.Count.{weigh}
+use Rattle.basis.specs.Choice.{pick}
 use Rattle.basis.proofs.Bools.{and-left, and-right, and-both}
 use Rattle.basis.proofs.Weigh.{bit-most}
 use Rattle.lightpath.specs.Place.{directionOf}
-use Rattle.lightpath.specs.Circuit.{joins, uses, canShare}
+use Rattle.lightpath.specs.Circuit.{joins, uses, users, canShare}
 use Rattle.lightpath.specs.declared.Circuit.{Circuit}
 use Rattle.lightpath.proofs.Share.{can-swap, share-links}
 use Rattle.slots.specs.Slot.{held, together, without}
@@ -75,7 +74,8 @@ module _ (N p : ℕ) where
       go false = alone-fits a (couple a b h .first)
 
   -- no link carries two of its lightpaths
-  pub fits-links : (s : Slot) (l : ℕ) → fits N p s ≡ true → 1 ≤ l → l ≤ N → weigh (λ c. bit (uses N (directionOf p) c l)) (held s) ≤ 1
+  pub fits-links : (s : Slot) (l : ℕ) → fits N p s ≡ true → 1 ≤ l → l ≤ N → users N (directionOf p) l (held s) ≤ 1
+  unfolding users
   fits-links unlit l h low high = zero-le
   fits-links (alone a) l h low high = omega (arith, bit-most (uses N (directionOf p) a l))
   fits-links (shared a b) l h low high =
@@ -87,4 +87,4 @@ rules-links N ks t rules q l low high = near (decLt q 128)
   where
     near : Dec (q < 128) → carried N t q l ≤ 1
     near (yes i) = fits-links N q (at t q) l (rules .places q i) low high
-    near (no n) = let k = limits-hold N ks t rules in rw (none-there t q (omega arith)) zero-le
+    near (no n) = let k = limits-hold N ks t rules in rw (none-there t q (omega arith)) (fits-links N q unlit l refl low high)

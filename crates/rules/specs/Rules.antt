@@ -5,11 +5,10 @@ use mathlib.Core.Bool.{Bool, true, _&&_, _||_}
 use mathlib.Core.List.{List, [], _∷_}
 use lib.Dec.{eqb, leb, ltb}
 use lib.ListN.{length}
-use Rattle.basis.specs.Choice.{bit}
-use Rattle.basis.specs.Count.{weigh, distinct}
+use Rattle.basis.specs.Count.{distinct}
 use Rattle.basis.specs.Search.{everyBelow}
 use Rattle.lightpath.specs.Place.{directionOf}
-use Rattle.lightpath.specs.Circuit.{joins, uses, canShare}
+use Rattle.lightpath.specs.Circuit.{joins, users, canShare}
 use Rattle.lightpath.specs.declared.Circuit.{Circuit}
 use Rattle.slots.specs.Slot.{held, isUnlit}
 use Rattle.slots.specs.declared.Slot.{Slot}
@@ -18,7 +17,7 @@ use Rattle.channels.specs.Channels.{Channels, at, circuits}
 use Rattle.ports.specs.Ports.{limitOf, limits, spareZero}
 use Rattle.usage.specs.Usage.{sends, receives}
 
--- 64 port fields and 128 places
+-- 64 port fields and 128 places, as the types of a table say
 abbrev pub sized : List ℕ → Channels → Bool
 sized ks t = eqb (length ks) 64 && eqb (length t) 128
 
@@ -43,11 +42,7 @@ shares N p unlit = true
 shares N p (alone a) = true
 shares N p (shared a b) = ltb (a .number) (b .number) && canShare N (directionOf p) a b
 
--- what place p holds is on the ring of N nodes and may stand there
-abbrev pub fits : ℕ → ℕ → Slot → Bool
-fits N p s = ends N s && shares N p s
-
--- all of them
+-- the ring rules, all of them, in 01's order
 abbrev pub ringRules : ℕ → List ℕ → Channels → Bool
 ringRules N ks t =
     limits N ks && sized ks t && unlitFrom (limitOf ks) t
@@ -57,6 +52,10 @@ ringRules N ks t =
     && everyBelow 128 (λ p. shares N p (at t p))
     && spareZero N ks
 
+-- what place p holds is on the ring of N nodes and may stand there
+abbrev pub fits : ℕ → ℕ → Slot → Bool
+fits N p s = ends N s && shares N p s
+
 -- a circuit at its place is a lightpath: how many lightpaths of place p go over link l
 abbrev pub carried : ℕ → Channels → ℕ → ℕ → ℕ
-carried N t p l = weigh (λ c. bit (uses N (directionOf p) c l)) (held (at t p))
+carried N t p l = users N (directionOf p) l (held (at t p))

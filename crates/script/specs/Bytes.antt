@@ -1,5 +1,5 @@
 -- A script's bytes as they come: the state between two reads, and what a read does and prints. Assumes nothing.
-use Prim.Native.Nat.{ℕ, _+_, _*_, _≤_}
+use Prim.Native.Nat.{ℕ, _*_, _≤_}
 use mathlib.Core.Path.{_≡_}
 use mathlib.Core.List.{List, [], _∷_, _++_}
 use lib.Dec.{eqb}
@@ -53,8 +53,8 @@ pub record Sound (s : Session) : Type 0 where
   pub held : s .held ≤ 257
   pub desk : KeepsRules (s .desk)
 
--- bytes were taken in: the session is the script after them, and what they print stands at the start of the lent bytes
--- of the session's 257 bytes those past the `held` first are left free: no script has them, so nothing that is printed later depends on them
+-- bytes were taken in: the session is the script after them, and what they print stands at the start of the lent bytes. Left
+-- free: the session's bytes past the first `held`; no script has them, so nothing printed later depends on them
 pub record Took (s : Session) (chunk l l′ : List ℕ) (r : Fed) : Type 0 where
   pub state : scriptOf (r .session) ≡ after (scriptOf s) chunk
   pub text : Printed (answerRoom * length chunk) l 0 (texts (scriptOf s) chunk) l′ (r .wrote)

@@ -31,30 +31,36 @@ joinPlace N m t c = firstBelow m (λ p. canJoin N c p (at t p))
 abbrev pub unlitPlace : ℕ → ℕ → Channels → Circuit → ℕ
 unlitPlace N m t c = firstBelow m (λ p. isUnlit (at t p))
 
--- Step 3. Otherwise list the nonsharing circuits by rising place, the new one last. It has no place yet and is listed at 128, nowhere.
+-- Step 3. Otherwise list the nonsharing circuits by rising place, the new one last. It has no place yet and is listed at 128, nowhere:
 
 abbrev pub nowhere : ℕ
 nowhere = 128
 
+-- the new circuit as it is listed,
 abbrev pub newcomer : Circuit → Standing
 newcomer c = record { place = nowhere; circuit = c }
 
+-- and the list
 abbrev pub candidates : ℕ → Channels → Circuit → List Standing
 candidates m t c = nonsharing m t ++ newcomer c ∷ []
 
--- Take pairs by first member, then second. The search stops at the first adjacent pair: how many pairs are tested before it,
+-- Take pairs by first member, then second. The search stops at the first adjacent pair: how many pairs of a list are tested before it,
+abbrev pub passedIn : List Standing → ℕ
+passedIn l = firstPlace adjacentPair (pairsOf l)
+
+-- and of that list
 abbrev pub passed : ℕ → Channels → Circuit → ℕ
-passed m t c = firstPlace adjacentPair (pairsOf (candidates m t c))
+passed m t c = passedIn (candidates m t c)
 
 -- and that pair
 abbrev pub foundPair : ℕ → Channels → Circuit → Standing × Standing
 foundPair m t c = getD (pairsOf (candidates m t c)) (passed m t c) (newcomer c, newcomer c)
 
--- Looks is the number of pairs tested, that one included.
+-- Looks is the number of pairs tested, that one included; it is 0 after steps 1 and 2, and never above 8,256.
 abbrev pub looks : ℕ → Channels → Circuit → ℕ
 looks m t c = suc (passed m t c)
 
--- 3a. A member stands already in a direction in which the pair a and b can share.
+-- 3a. A member already stands in direction d (then both are old): x does, in a direction in which the pair a and b can share.
 abbrev pub standsRight : ℕ → Standing → Standing → Standing → Bool
 standsRight N a b x = ltb (x .place) nowhere && canShare N (directionOf (x .place)) (a .circuit) (b .circuit)
 
@@ -74,7 +80,8 @@ xOf N m t a b = standingAt t (lowestAlone m t (shareDirection N (a .circuit) (b 
 abbrev pub exchanging : Circuit → Standing → Standing → Standing → ℕ → Plan
 exchanging c x a b k = pick (ltb (b .place) nowhere) (threeMoves c x a b k) (twoMoves c x a k)
 
--- step 3 with the pair a and b, found after k looks
+-- step 3 with the pair a and b, found after k looks. 3a: the member that stands right stays; if both do, the lower place stays, which
+-- is a's, since a is listed first
 abbrev pub rearranging : ℕ → ℕ → Channels → Circuit → Standing → Standing → ℕ → Plan
 rearranging N m t c a b k =
     pick (standsRight N a b a) (oneMove c a b k)

@@ -5,7 +5,7 @@ use Rattle.basis.specs.Choice.{pick}
 use Rattle.lightpath.specs.declared.Circuit.{Circuit}
 use Rattle.slots.specs.Slot.{held, isLit, firstOf}
 use Rattle.slots.specs.declared.Slot.{Slot}
-use Rattle.lit_words.specs.Lit.{under, Room}
+use Rattle.lit_words.specs.Lit.{under, RoomUnder}
 use Rattle.channels.specs.Channels.{Channels, circuits, numbered, litOf}
 use Rattle.channels.specs.Nonsharing.{standingAt}
 use Rattle.usage.specs.Usage.{sends, receives}
@@ -37,4 +37,4 @@ pub record Takes (v : Survey) (p : ℕ) : Type 0 where
   pub numbered : v .numbered ≤ 254
   pub sent : v .sent ≤ 254
   pub received : v .received ≤ 254
-  pub lit : Room (v .lit) p
+  pub lit : RoomUnder (v .lit) p

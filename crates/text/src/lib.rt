@@ -12,7 +12,7 @@ pub enum Number {
     Missing,
 }
 
-// The number that a word is in decimal, leading zeros allowed, where it is at most the most.
+// The number that a word is in decimal, leading zeros allowed, where it is at most `most`.
 pub fn read_number(word: &[u8], most: u32) -> Number
     ensures { λ r. ⌜ r ≡ number (most + 1) (now (word .entry)) ⌝ }
 {

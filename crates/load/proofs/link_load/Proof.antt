@@ -14,8 +14,8 @@ abbrev μ-loop : tie.MeasureT-loop
 loop-holds : tie.Need-loop-holds Inv-loop μ-loop
 loop-holds c = search (needs, counting)
 
-carried-requires : tie.Need-carried-requires Inv-loop μ-loop
-carried-requires c κs = search (needs, counting)
+users-on-requires : tie.Need-users-on-requires Inv-loop μ-loop
+users-on-requires c κs = search (needs, counting)
 
 add-sum : tie.Need-add-sum Inv-loop μ-loop
 add-sum c = search (needs, counting)
@@ -39,7 +39,7 @@ link-load-spec =
     Inv-loop
     μ-loop
     loop-holds
-    carried-requires
+    users-on-requires
     add-sum
     add-w
     loop-less

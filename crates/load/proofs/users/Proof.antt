@@ -1,5 +1,5 @@
 -- `load::users` meets its contract. Assumes nothing.
-use Rattle.load.specs.Load.{users}
+use Rattle.lightpath.specs.Circuit.{users}
 use Rattle.load.proofs.Counted.{byte-most, counts-one, counts-two}
 use native.Mathlib.Omega.{arith}
 use borrow.Author.Needs.{needs}

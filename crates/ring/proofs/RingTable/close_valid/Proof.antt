@@ -4,8 +4,8 @@ use borrow.Author.Needs.{needs}
 use Rattle.ring.proofs.RingTable.close_valid.Statement.{statement}
 use Rattle.ring.proofs.RingTable.close_valid.Tie as tie
 
-place-of-requires : tie.Need-place-of-requires
-place-of-requires c κs = search needs
+where-is-requires : tie.Need-where-is-requires
+where-is-requires c κs = search needs
 
 returns : tie.Need-returns
 returns c = search (needs, close-missed)
@@ -18,4 +18,4 @@ returns-2 c = search (needs, close-found)
 
 pub close-valid-spec : {M : Type 1} → statement M
 close-valid-spec =
-    tie.close (tie.spec place-of-requires returns without-circuit-requires returns-2)
+    tie.close (tie.spec where-is-requires returns without-circuit-requires returns-2)

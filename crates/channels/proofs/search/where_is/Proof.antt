@@ -1,12 +1,12 @@
--- `channels::place_of` meets its contract. Assumes nothing.
+-- `channels::where_is` meets its contract. Assumes nothing.
 use Prim.Native.Nat.{_-_, _≤_}
 use mathlib.Core.Bool.{false}
 use Rattle.basis.proofs.Scan.{Passed, scan}
 use Rattle.slots.specs.Slot.{holds}
 use Rattle.channels.specs.Channels.{at}
 use borrow.Author.Needs.{needs}
-use Rattle.channels.proofs.search.place_of.Statement.{statement}
-use Rattle.channels.proofs.search.place_of.Tie as tie
+use Rattle.channels.proofs.search.where_is.Statement.{statement}
+use Rattle.channels.proofs.search.where_is.Tie as tie
 
 abbrev Inv-loop : tie.InvT-loop
 Inv-loop number channels p₀ p = (p ≤ 128) × Passed (λ p. holds number (at channels p)) false p
@@ -41,8 +41,8 @@ loop-again c = search (needs, scan)
 returns-2 : tie.Need-returns-2 Inv-loop μ-loop
 returns-2 c = search (needs, scan)
 
-pub place-of-spec : {M : Type 1} → statement M
-place-of-spec =
+pub where-is-spec : {M : Type 1} → statement M
+where-is-spec =
     tie.close
     (tie.spec
     Inv-loop

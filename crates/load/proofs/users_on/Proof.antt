@@ -1,7 +1,7 @@
--- `load::carried` meets its contract. Assumes nothing.
+-- `load::users_on` meets its contract. Assumes nothing.
 use borrow.Author.Needs.{needs}
-use Rattle.load.proofs.carried.Statement.{statement}
-use Rattle.load.proofs.carried.Tie as tie
+use Rattle.load.proofs.users_on.Statement.{statement}
+use Rattle.load.proofs.users_on.Tie as tie
 
 place-requires : tie.Need-place-requires
 place-requires c κs = search needs
@@ -18,6 +18,6 @@ users-requires c κs = search needs
 returns : tie.Need-returns
 returns c = rw (← c .before .before .before .place .ensures, ← c .before .slot-at .ensures) (c .users .ensures)
 
-pub carried-spec : {M : Type 1} → statement M
-carried-spec =
+pub users-on-spec : {M : Type 1} → statement M
+users-on-spec =
     tie.close (tie.spec place-requires cast-slot-at slot-at-requires users-requires returns)
