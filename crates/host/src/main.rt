@@ -1,5 +1,5 @@
-// A host of the ring controller: it makes document 01's ring, opens its circuits with a list of move records that it lends, closes one,
-// and prints what it got.
+// A host of the ring controller: it makes rings, opens circuits with a list of move records that it lends, closes some, and prints what
+// it got.
 // A demonstration: `main` promises only that it is safe, and what it prints is held to the file `stdout` by the gate.
 
 ghost use mathlib.Core.Path.{_≡_};
@@ -131,9 +131,9 @@ fn close_circuit(table: RingTable, number: u32) -> RingTable {
     closed.table
 }
 
-// A ring of five nodes, with a transmitter and a receiver at each.
-fn make_ring() -> RingTable {
-    let made = RingTable::make(5, b"\x01\x01\x01\x01\x01");
+// A ring is made.
+fn make_ring(nodes: u8, ports: &[u8]) -> RingTable {
+    let made = RingTable::make(nodes, ports);
     let table = made.table;
     let verdict = made.verdict;
     print(b"ring ", wide8(table.nodes));
@@ -154,8 +154,9 @@ fn circuit(number: u32, source: u8, destination: u8) -> Circuit
     }
 }
 
-// Document 01's script.
-fn run_script(table: RingTable) -> RingTable {
+// Document 01's script: five nodes with a transmitter and a receiver at each. The opening of 15 moves three circuits.
+fn move_three() -> RingTable {
+    let table = make_ring(5, b"\x01\x01\x01\x01\x01");
     let table = open_circuit(table, circuit(11, 1, 5));
     let table = open_circuit(table, circuit(12, 2, 3));
     let table = open_circuit(table, circuit(13, 4, 1));
@@ -166,7 +167,7 @@ fn run_script(table: RingTable) -> RingTable {
     open_circuit(table, circuit(16, 4, 1))
 }
 
-// After it, an opening that moves one circuit.
+// After it, an opening that moves one.
 fn move_one(table: RingTable) {
     let table = close_circuit(table, 16);
     let table = close_circuit(table, 11);
@@ -176,6 +177,17 @@ fn move_one(table: RingTable) {
     open_circuit(table, circuit(19, 2, 3));
 }
 
+// On a ring of six nodes, an opening that moves two.
+fn move_two() {
+    let table = make_ring(6, b"\x01\x01\x01\x01\x01\x01");
+    let table = open_circuit(table, circuit(21, 4, 3));
+    let table = open_circuit(table, circuit(22, 6, 5));
+    let table = open_circuit(table, circuit(23, 5, 6));
+    let table = open_circuit(table, circuit(24, 1, 2));
+    open_circuit(table, circuit(25, 2, 4));
+}
+
 fn main() {
-    move_one(run_script(make_ring()));
+    move_one(move_three());
+    move_two();
 }

@@ -1,5 +1,7 @@
 // The script program: it runs a script from standard input and writes the answers to standard output.
+ghost use mathlib.Core.Path.{_≡_};
 ghost use Prim.Native.Nat.{_*_, _≤_};
+ghost use lib.Dec.{eqb};
 ghost use lib.ListN.{length};
 ghost use Rattle.script.specs.Desk.{answerRoom};
 ghost use Rattle.script.specs.Bytes.{Sound};
@@ -20,6 +22,13 @@ struct Turn {
     next: Next,
 }
 
+// The input has ended, or cannot be read, where a read takes nothing.
+fn input_ended(count: usize) -> bool
+    ensures { λ r. ⌜ r ≡ eqb count 0 ⌝ }
+{
+    count == 0
+}
+
 // Reads once and writes the answers of the lines that ended. The input ends where there is nothing to read, and a write that fails
 // stops the program.
 fn read_once(session: Session, out: &mut [u8]) -> Turn
@@ -28,13 +37,13 @@ fn read_once(session: Session, out: &mut [u8]) -> Turn
 {
     let mut buffer = [0u8; 1024];
     let got = libc::read(STDIN_FILENO, &mut buffer);
-    if got <= 0 {
+    let count = io::count(got, &buffer);
+    if input_ended(count) {
         return Turn {
             session,
             next: Next::Finish,
         };
     }
-    let count = io::count(got, &buffer);
     let fed = script::feed(session, &buffer[..count], out);
     let session = fed.session;
     let wrote = fed.wrote;

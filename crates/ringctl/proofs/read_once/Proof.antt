@@ -12,14 +12,17 @@ slice-aggregate-read c = search needs
 read-requires : tie.Need-read-requires
 read-requires c κs = search needs
 
-returns : tie.Need-returns
-returns c = search needs
-
 slice-aggregate-count : tie.Need-slice-aggregate-count
 slice-aggregate-count c = search needs
 
 count-requires : tie.Need-count-requires
 count-requires c κs = search needs
+
+input-ended-requires : tie.Need-input-ended-requires
+input-ended-requires c κs = search needs
+
+returns : tie.Need-returns
+returns c = search needs
 
 array-share-prefix-buffer : tie.Need-array-share-prefix-buffer
 array-share-prefix-buffer c = search needs
@@ -57,9 +60,10 @@ read-once-spec =
     (tie.spec
     slice-aggregate-read
     read-requires
-    returns
     slice-aggregate-count
     count-requires
+    input-ended-requires
+    returns
     array-share-prefix-buffer
     slice-aggregate-feed
     feed-requires
