@@ -36,7 +36,7 @@ listed-moves (a ∷ b ∷ c ∷ []) h = refl
 listed-moves (a ∷ b ∷ c ∷ d ∷ ms) h = absurd (omega arith)
 
 -- a list of any length gives at most three
-pub count-most : (ms : List Move) → movesOf ms .count ≤ 3
+count-most : (ms : List Move) → movesOf ms .count ≤ 3
 count-most [] = omega arith
 count-most (a ∷ []) = omega arith
 count-most (a ∷ b ∷ []) = omega arith

@@ -1,9 +1,19 @@
--- Arrays of structs. Assumes nothing.
-use Prim.Native.Nat.{ℕ}
+-- Arrays of structs, and the first elements of an array, lent. Assumes nothing.
+use Prim.Native.Nat.{ℕ, _≤_}
 use mathlib.Core.Path.{_≡_, sym, _∙_}
 use mathlib.Core.List.{List, map}
-use lib.ListN.{length, length-map}
+use native.Mathlib.Omega.{arith}
+use lib.ListN.{length, take, length-map}
+use lib.Seq.{length-take-le}
 
 -- the length of an array of structs, which is known of the list of what they are stored as
 pub array-length : (X Y : Type 0) (stored : X → Y) (array : List X) (n : ℕ) → length (map stored array) ≡ n → length array ≡ n
 array-length X Y stored array n e = sym (length-map array stored) ∙ e
+
+-- what a caller that lends the first n elements of an array has to show: they are there
+pub lent-within : {A : Type 0} (array : List A) (width n : ℕ) → length array ≡ width → n ≤ width → n ≤ length array
+lent-within array width n e h = omega arith
+
+-- and are n
+pub lent-counted : {A : Type 0} (array : List A) (n : ℕ) → n ≤ length array → n ≡ length (take n array)
+lent-counted array n h = sym (length-take-le n array h)

@@ -6,6 +6,7 @@ use mathlib.Core.Bool.{Bool, true, false, _&&_, _||_, not, false≢true}
 pub use mathlib.Core.Bool.{and-false}
 use mathlib.Core.List.{List, [], _∷_, _++_}
 use lib.Dec.{eqb, leb, ltb, leb·suc-suc}
+use mir.Val.{boolByte}
 use borrow.Author.Tests.{leb-true, leb-false, lt-ltb, le-ltb, eq-eqb, ne-eqb}
 use Rattle.basis.specs.Choice.{bit}
 use Rattle.basis.specs.Count.{All}
@@ -55,6 +56,11 @@ not-leb a b = go (leb a b) refl
 -- not below is at least
 pub not-ltb : (a b : ℕ) → not (ltb a b) ≡ leb b a
 not-ltb a b = not-leb (suc a) b ∙ leb·suc-suc b a
+
+-- a test cast to a number
+pub byte-bit : (r : Bool) → boolByte r ≡ bit r
+byte-bit true = refl
+byte-bit false = refl
 
 -- an equality that holds counts 1
 pub bit-eq : (m n : ℕ) → m ≡ n → bit (eqb m n) ≡ 1

@@ -1,6 +1,6 @@
 -- Laws for `search (needs, branch)`: a definition by tests, from the branches that the code took. Assumes nothing.
-use mathlib.Core.Path.{_≡_, sym, _∙_}
-use mathlib.Core.Bool.{Bool, true, false, _&&_, _||_}
+use mathlib.Core.Path.{_≡_, sym, ap, _∙_}
+use mathlib.Core.Bool.{Bool, true, false, _&&_, _||_, not}
 use borrow.Author.Tests.{lt-ltb, le-ltb, le-leb, lt-leb, eq-eqb, ne-eqb, not-true, not-false}
 use Rattle.basis.specs.Choice.{pick}
 
@@ -31,6 +31,10 @@ or-next a b r e h = rw e h
 -- a test that a call made
 pub said : (r b t : Bool) → r ≡ b → r ≡ t → b ≡ t
 said r b t e h = sym e ∙ h
+
+-- and one that it made, the other way
+pub not-said : (r b : Bool) → r ≡ b → not r ≡ not b
+not-said r b e = ap not e
 
 pub ruleset branch =
     (pick-true, pick-false, and-true, and-stop, or-stop, or-next, lt-ltb, le-ltb, le-leb, lt-leb, eq-eqb, ne-eqb, said, not-true, not-false)

@@ -71,6 +71,12 @@ found-passes f d (x ∷ xs) h = go (f x) refl (λ k. found-passes f d xs k)
     go true e rest = rw e e
     go false e rest = rw e (rest (le-of-suc-le-suc (rw e at h)))
 
+-- an element that there is does not depend on the default
+pub any-default : {A : Type 0} (d e : A) (l : List A) (i : ℕ) → i < length l → getD l i d ≡ getD l i e
+any-default d e [] i h = absurd (not-suc-le-zero h)
+any-default d e (x ∷ xs) zero h = refl
+any-default d e (x ∷ xs) (suc i) h = any-default d e xs i (le-of-suc-le-suc h)
+
 -- what holds of each element holds at each position
 pub all-at : {A : Type 0} (P : A → Type 0) (d : A) (l : List A) → All P l → (i : ℕ) → i < length l → P (getD l i d)
 all-at P d [] h i k = absurd (not-suc-le-zero k)

@@ -1,6 +1,6 @@
 -- Sums of numbers and over the nodes, and the count of a list by its keys. Assumes nothing.
 use Prim.Native.Nat.{ℕ, zero, suc, _+_, _≤_, _<_, zero-le, suc-le-suc}
-use mathlib.Core.Path.{_≡_, refl}
+use mathlib.Core.Path.{_≡_, refl, ap}
 use mathlib.Core.List.{List, [], _∷_, _++_}
 use native.Mathlib.Nat.{le-of-suc-le-suc, not-suc-le-zero}
 use native.Mathlib.Omega.{arith}
@@ -10,7 +10,7 @@ use Rattle.basis.specs.Choice.{bit}
 use Rattle.basis.specs.Count.{tally, All, total}
 
 -- the sum of two lists of numbers joined
-pub total-append : (ks ls : List ℕ) → total (ks ++ ls) ≡ total ks + total ls
+total-append : (ks ls : List ℕ) → total (ks ++ ls) ≡ total ks + total ls
 total-append [] ls = omega arith
 total-append (k ∷ ks) ls = omega (arith, total-append ks ls)
 
@@ -18,6 +18,18 @@ total-append (k ∷ ks) ls = omega (arith, total-append ks ls)
 pub total-zeros : (n : ℕ) → total (replicate n 0) ≡ 0
 total-zeros zero = refl
 total-zeros (suc n) = omega (arith, total-zeros n)
+
+-- and change no sum that they stand after
+pub total-padded : (ks : List ℕ) (n : ℕ) → total (ks ++ replicate n 0) ≡ total ks
+total-padded ks n = omega (arith, total-append ks (replicate n 0), total-zeros n)
+
+-- numbers that add up to nothing are zeros
+pub zeros : (ls : List ℕ) → total ls ≡ 0 → ls ≡ replicate (length ls) 0
+zeros [] e = refl
+zeros (l ∷ ls) e =
+    let z : l ≡ 0 = omega arith in
+    let r : ls ≡ replicate (length ls) 0 = zeros ls (omega arith) in
+    rw z (ap (λ (x : List ℕ). 0 ∷ x) r)
 
 -- f 0 + .. + f (n - 1)
 abbrev pub sumBelow : (ℕ → ℕ) → ℕ → ℕ
@@ -46,7 +58,7 @@ point zero (suc n) h = simp eqb·zero-suc (omega (arith, sum-zero n))
 point (suc s) (suc n) h = simp (eqb·suc-zero, eqb·suc-suc) (omega (arith, point s n (le-of-suc-le-suc h)))
 
 -- of the nodes 1 to N too
-pub node : (s N : ℕ) → 1 ≤ s → s ≤ N → sumBelow (λ j. bit (eqb s (suc j))) N ≡ 1
+node : (s N : ℕ) → 1 ≤ s → s ≤ N → sumBelow (λ j. bit (eqb s (suc j))) N ≡ 1
 node zero N l h = absurd (not-suc-le-zero l)
 node (suc s) N l h = simp eqb·suc-suc (point s N h)
 

@@ -1,12 +1,13 @@
 -- Weights, and distinct keys. Assumes nothing.
-use Prim.Native.Nat.{ℕ, _+_, _≤_, _<_, zero-le}
+use Prim.Native.Nat.{ℕ, zero, suc, _+_, _≤_, _<_, zero-le}
 use mathlib.Core.Path.{_≡_, refl, sym}
 use mathlib.Core.Bool.{Bool, true, false}
 use mathlib.Core.List.{List, [], _∷_, _++_}
+use native.Mathlib.Nat.{le-of-suc-le-suc, not-suc-le-zero}
 use native.Mathlib.Decide.{ℕ-discrete}
 use native.Mathlib.Omega.{arith}
 use lib.Dec.{eqb}
-use lib.ListN.{length}
+use lib.ListN.{length, getD, set}
 use borrow.Author.Tests.{eqb-true, eq-eqb, ne-eqb}
 use Rattle.basis.specs.Choice.{pick, bit}
 use Rattle.basis.specs.Count.{weigh, tally, distinct, All}
@@ -31,6 +32,13 @@ ones-weigh w (x ∷ xs) h = omega (arith, ones-weigh w xs (h .1))
 pub weigh-zero : {A : Type 0} (w : A → ℕ) (xs : List A) → weigh w xs ≡ 0 → All (λ x. w x ≡ 0) xs
 weigh-zero w [] h = tt
 weigh-zero w (x ∷ xs) h = (omega arith, weigh-zero w xs (omega arith))
+
+-- a store takes the old element's weight and gives the new one's
+pub weigh-set : {A : Type 0} (w : A → ℕ) (d : A) (xs : List A) (i : ℕ) (x : A) → i < length xs
+    → weigh w (set xs i x) + w (getD xs i d) ≡ weigh w xs + w x
+weigh-set w d [] i x l = absurd (not-suc-le-zero l)
+weigh-set w d (y ∷ xs) zero x l = omega arith
+weigh-set w d (y ∷ xs) (suc i) x l = omega (arith, weigh-set w d xs i x (le-of-suc-le-suc l))
 
 -- a test counts at most 1
 pub bit-most : (b : Bool) → bit b ≤ 1

@@ -12,11 +12,11 @@ use Rattle.lightpath.specs.Circuit.{hops, adjacent, canShare}
 use Rattle.moves.specs.declared.Move.{Move}
 use Rattle.moves.specs.Lent.{blanks}
 use Rattle.ports.specs.Ports.{wavelengths}
+use Rattle.refusals.specs.Answer.{Answer as Reply, refusal, verdictAnswer}
 use Rattle.ring.specs.declared.RingTable.{RingTable}
 use Rattle.ring.specs.Making.{makeOf}
 use Rattle.ring.specs.Opening.{openOf, lentAfter}
 use Rattle.ring.specs.Closing.{closeOf}
-use Rattle.refusals.specs.Answer.{Answer as Reply, refusal, verdictAnswer}
 use Rattle.ring.specs.Answer.{openingAnswer}
 use Rattle.form.specs.Form.{formOf}
 

@@ -94,6 +94,14 @@ module _ (t : Channels) (n : ℕ) where
       go (yes h) = h
       go (no h) = absurd (omega (arith, ltb-true 0 (numbered n (circuits t)) l, weigh-nowhere t (ofNumber n) (none (omega arith))))
 
+  -- it is live exactly where it stands at a place
+  pub live-where : length t ≡ 128 → live t n ≡ ltb (whereIs t n) 128
+  live-where long = go (live t n) refl
+    where
+      go : (o : Bool) → live t n ≡ o → live t n ≡ ltb (whereIs t n) 128
+      go true e = e ∙ sym (lt-ltb (whereIs t n) 128 (live-placed long e))
+      go false e = e ∙ sym (le-ltb (whereIs t n) 128 (omega (arith, dead-nowhere (omega (arith, ltb-false 0 (numbered n (circuits t)) e)))))
+
 module _ (t : Channels) (numbers : distinct (λ c. c .number) (circuits t) ≡ true) (n : ℕ) where
   -- it stands where a circuit has it
   pub stands-at : (p : ℕ) → p < 128 → 0 < numbered n (held (at t p)) → whereIs t n ≡ p
@@ -126,40 +134,33 @@ same-circuit a b h =
       remark = h (λ c. c .remark) i;
     }
 
--- a weight of the circuits of number n alone
-abbrev only : ℕ → (Circuit → ℕ) → Circuit → ℕ
-only n w = keyed (λ c. c .number) n w
-
-only-none : (n : ℕ) (w : Circuit → ℕ) (cs : List Circuit) → numbered n cs ≡ 0 → weigh (only n w) cs ≡ 0
-only-none n w cs z = keyed-none (λ c. c .number) n w cs z
-
 -- in a place that holds number n once, a weight of the circuits of that number alone is that circuit's
-named-weighs : (w : Circuit → ℕ) (n : ℕ) (s : Slot) → numbered n (held s) ≡ 1 → weigh (only n w) (held s) ≡ w (named n s)
+named-weighs : (w : Circuit → ℕ) (n : ℕ) (s : Slot) → numbered n (held s) ≡ 1 → weigh (keyed (λ c. c .number) n w) (held s) ≡ w (named n s)
 named-weighs w n s h =
     let p = parted n s (omega arith) in
-    let e : only n w (named n s) ≡ w (named n s) = rw (eq-eqb (named n s .number) n (p .number)) in
+    let e : keyed (λ c. c .number) n w (named n s) ≡ w (named n s) = rw (eq-eqb (named n s .number) n (p .number)) in
     omega (
       arith,
-      p .weighs (only n w),
-      only-none n w (held (without n s)) (omega (arith, p .weighs (ofNumber n), bit-eq (named n s .number) n (p .number))),
+      p .weighs (keyed (λ c. c .number) n w),
+      keyed-none (λ c. c .number) n w (held (without n s)) (omega (arith, p .weighs (ofNumber n), bit-eq (named n s .number) n (p .number))),
     )
 
 module _ (t : Channels) (numbers : distinct (λ c. c .number) (circuits t) ≡ true) (long : length t ≡ 128) where
   -- so it is in a table
-  only-weighs : (w : Circuit → ℕ) (n : ℕ) → live t n ≡ true → weigh (only n w) (circuits t) ≡ w (circuitOf t n)
-  only-weighs w n l =
+  keyed-weighs : (w : Circuit → ℕ) (n : ℕ) → live t n ≡ true → weigh (keyed (λ c. c .number) n w) (circuits t) ≡ w (circuitOf t n)
+  keyed-weighs w n l =
       omega (
         arith,
-        whole (only n w) ((whereIs t n gets unlit) ∷ []) t (tt, tt) (rw long placed, tt) elsewhere,
+        whole (keyed (λ c. c .number) n w) ((whereIs t n gets unlit) ∷ []) t (tt, tt) (rw long placed, tt) elsewhere,
         named-weighs w n (at t (whereIs t n)) (omega (arith, one-place t numbers n (whereIs t n) placed, bit-eq (whereIs t n) (whereIs t n) refl)),
       )
     where
       placed : whereIs t n < 128
       placed = live-placed t n long l
 
-      elsewhere : (p : ℕ) → p < length t → Spared ((whereIs t n gets unlit) ∷ []) p → weigh (only n w) (held (at t p)) ≡ 0
+      elsewhere : (p : ℕ) → p < length t → Spared ((whereIs t n gets unlit) ∷ []) p → weigh (keyed (λ c. c .number) n w) (held (at t p)) ≡ 0
       elsewhere p i d =
-          only-none n w (held (at t p)) (omega (arith, one-place t numbers n p (omega arith), bit-ne (whereIs t n) p (λ e. d .0 (sym e))))
+          keyed-none (λ c. c .number) n w (held (at t p)) (omega (arith, one-place t numbers n p (omega arith), bit-ne (whereIs t n) p (λ e. d .0 (sym e))))
 
   -- a table that weighs what some circuits do holds each of them under its number
   pub holds-each : (cs : List Circuit) → ((w : Circuit → ℕ) → weigh w (circuits t) ≡ weigh w cs) → All (λ x. circuitOf t (x .number) ≡ x) cs
@@ -173,8 +174,8 @@ module _ (t : Channels) (numbers : distinct (λ c. c .number) (circuits t) ≡ t
       there : (n : ℕ) → 0 < numbered n cs → live t n ≡ true
       there n l = lt-ltb 0 (numbered n (circuits t)) (omega (arith, h (ofNumber n)))
 
-      one : (x : Circuit) → (0 < numbered (x .number) cs) × ((w : Circuit → ℕ) → weigh (only (x .number) w) cs ≡ w x)
+      one : (x : Circuit) → (0 < numbered (x .number) cs) × ((w : Circuit → ℕ) → weigh (keyed (λ c. c .number) (x .number) w) cs ≡ w x)
           → circuitOf t (x .number) ≡ x
       one x e =
           same-circuit (circuitOf t (x .number)) x
-          (λ w. sym (only-weighs w (x .number) (there (x .number) (e .0))) ∙ h (only (x .number) w) ∙ e .1 w)
+          (λ w. sym (keyed-weighs w (x .number) (there (x .number) (e .0))) ∙ h (keyed (λ c. c .number) (x .number) w) ∙ e .1 w)

@@ -6,10 +6,10 @@ use mathlib.Core.Logic.{_≢_}
 use mathlib.Core.List.{List, [], _∷_}
 use native.Mathlib.Nat.{le-of-suc-le-suc, not-suc-le-zero}
 use native.Mathlib.Omega.{arith}
-use lib.ListN.{length, getD, set, drop, length-set, length-drop, List·getD-eq-default}
+use lib.ListN.{length, getD, set, drop, length-set, length-drop, List·getD-eq-default, take}
 use lib.Seq.{drop-cons, getD-drop, getD-set-same, getD-set-other}
 use Rattle.basis.specs.Count.{weigh}
-use Rattle.basis.proofs.Weigh.{weigh-append}
+use Rattle.basis.proofs.Weigh.{weigh-append, weigh-set}
 use Rattle.lightpath.specs.declared.Circuit.{Circuit}
 use Rattle.slots.specs.Slot.{held, isUnlit}
 use Rattle.slots.specs.declared.Slot.{Slot}
@@ -44,32 +44,34 @@ is-unlit unlit e = refl
 is-unlit (alone a) e = cc
 is-unlit (shared a b) e = cc
 
--- the first content's circuits and the others'
-weigh-cons : (w : Circuit → ℕ) (s : Slot) (u : List Slot) → weigh w (allHeld (s ∷ u)) ≡ weigh w (held s) + weigh w (allHeld u)
-weigh-cons w s u = weigh-append w (held s) (allHeld u)
-
 -- a weight of circuits is one of contents
 pub weigh-slots : (w : Circuit → ℕ) (u : List Slot) → weigh w (allHeld u) ≡ weigh (λ s. weigh w (held s)) u
 weigh-slots w [] = refl
-weigh-slots w (s ∷ u) = omega (arith, weigh-cons w s u, weigh-slots w u)
+weigh-slots w (s ∷ u) = omega (arith, weigh-append w (held s) (allHeld u), weigh-slots w u)
 
 -- one content weighs no more than all
 weigh-one : (w : Circuit → ℕ) (u : List Slot) (p : ℕ) → weigh w (held (getD u p unlit)) ≤ weigh w (allHeld u)
 weigh-one w [] p = zero-le
-weigh-one w (s ∷ u) zero = omega (arith, weigh-cons w s u)
-weigh-one w (s ∷ u) (suc p) = omega (arith, weigh-cons w s u, weigh-one w u p)
+weigh-one w (s ∷ u) zero = omega (arith, weigh-append w (held s) (allHeld u))
+weigh-one w (s ∷ u) (suc p) = omega (arith, weigh-append w (held s) (allHeld u), weigh-one w u p)
 
 -- nor do two
 weigh-two : (w : Circuit → ℕ) (u : List Slot) (p q : ℕ) → q < p → weigh w (held (getD u q unlit)) + weigh w (held (getD u p unlit)) ≤ weigh w (allHeld u)
 weigh-two w [] p q l = omega arith
 weigh-two w (s ∷ u) zero q l = absurd (not-suc-le-zero l)
-weigh-two w (s ∷ u) (suc p) zero l = omega (arith, weigh-cons w s u, weigh-one w u p)
-weigh-two w (s ∷ u) (suc p) (suc q) l = omega (arith, weigh-cons w s u, weigh-two w u p q (le-of-suc-le-suc l))
+weigh-two w (s ∷ u) (suc p) zero l = omega (arith, weigh-append w (held s) (allHeld u), weigh-one w u p)
+weigh-two w (s ∷ u) (suc p) (suc q) l = omega (arith, weigh-append w (held s) (allHeld u), weigh-two w u p q (le-of-suc-le-suc l))
+
+-- the first places weigh no more than all
+pub take-held : (w : Circuit → ℕ) (n : ℕ) (u : List Slot) → weigh w (allHeld (take n u)) ≤ weigh w (allHeld u)
+take-held w zero u = zero-le
+take-held w (suc n) [] = zero-le
+take-held w (suc n) (s ∷ u) = omega (arith, weigh-append w (held s) (allHeld (take n u)), weigh-append w (held s) (allHeld u), take-held w n u)
 
 -- and all weigh nothing where none weighs anything
 weigh-none : (w : Circuit → ℕ) (u : List Slot) → ((p : ℕ) → p < length u → weigh w (held (getD u p unlit)) ≡ 0) → weigh w (allHeld u) ≡ 0
 weigh-none w [] h = refl
-weigh-none w (s ∷ u) h = omega (arith, weigh-cons w s u, h 0 (omega arith), weigh-none w u (λ p l. h (suc p) (suc-le-suc l)))
+weigh-none w (s ∷ u) h = omega (arith, weigh-append w (held s) (allHeld u), h 0 (omega arith), weigh-none w u (λ p l. h (suc p) (suc-le-suc l)))
 
 -- a place holds at most two circuits
 weigh-two-each : (w : Circuit → ℕ) → ((c : Circuit) → w c ≤ 1) → (u : List Slot) → weigh w (allHeld u) ≤ 2 * length u
@@ -77,12 +79,6 @@ weigh-two-each w h [] = zero-le
 weigh-two-each w h (unlit ∷ u) = omega (arith, weigh-two-each w h u)
 weigh-two-each w h (alone a ∷ u) = omega (arith, h a, weigh-two-each w h u)
 weigh-two-each w h (shared a b ∷ u) = omega (arith, h a, h b, weigh-two-each w h u)
-
--- a store takes the old content's amount and gives the new one's
-sum-set : (f : Slot → ℕ) (u : List Slot) (p : ℕ) (s : Slot) → p < length u → weigh f (set u p s) + f (getD u p unlit) ≡ weigh f u + f s
-sum-set f [] p s l = absurd (not-suc-le-zero l)
-sum-set f (x ∷ u) zero s l = omega arith
-sum-set f (x ∷ u) (suc p) s l = omega (arith, sum-set f u p s (le-of-suc-le-suc l))
 
 module _ (t : Channels) (w : Circuit → ℕ) where
   -- one place weighs no more than the table
@@ -99,7 +95,7 @@ module _ (t : Channels) (w : Circuit → ℕ) where
 
   -- the places from p on weigh what p does and those above it
   pub weigh-from : (p : ℕ) → p < length t → weigh w (circuits (drop p t)) ≡ weigh w (held (at t p)) + weigh w (circuits (drop (suc p) t))
-  weigh-from p l = rw (drop-cons t p unlitChannel l) (weigh-cons w (at t p) (slots (drop (suc p) t)))
+  weigh-from p l = rw (drop-cons t p unlitChannel l) (weigh-append w (held (at t p)) (circuits (drop (suc p) t)))
 
   -- they weigh nothing where all are unlit
   pub weigh-unlit : (p : ℕ) → ((q : ℕ) → p ≤ q → q < length t → at t q ≡ unlit) → weigh w (circuits (drop p t)) ≡ 0
@@ -130,4 +126,4 @@ module _ (ch : Change) (t : Channels) where
   pub put-sum : (f : Slot → ℕ) → ch .place < length t → weigh f (slots (put ch t)) + f (at t (ch .place)) ≡ weigh f (slots t) + f (ch .slot)
   put-sum f l =
       rw (slots-set t (ch .place) (ch .slot), ← slots-at t (ch .place))
-      (sum-set f (slots t) (ch .place) (ch .slot) (omega (arith, slots-length t)))
+      (weigh-set f unlit (slots t) (ch .place) (ch .slot) (omega (arith, slots-length t)))

@@ -1,6 +1,6 @@
 -- Reading the record of a place. Assumes nothing.
 use Prim.Native.Nat.{ℕ, _+_, _≤_, _<_}
-use mathlib.Core.Path.{_≡_, refl, ap, _∙_}
+use mathlib.Core.Path.{_≡_, refl, _∙_}
 use mathlib.Core.Bool.{Bool, true, false, not}
 use mathlib.Core.List.{List}
 use lib.ListN.{length, getD, drop, drop-of-length-le}
@@ -17,10 +17,6 @@ use Rattle.decode.specs.declared.circuit.CircuitRead.the-variants.{Got, 
 use Rattle.decode.specs.declared.places.SlotRead.{SlotRead}
 use Rattle.decode.specs.Found.{CircuitAt, SlotAt}
 use Rattle.decode.proofs.Circuits.{byte-at}
-
--- a test that a call made, the other way
-pub not-said : (r b : Bool) → r ≡ b → not r ≡ not b
-not-said r b e = ap not e
 
 -- the second circuit: none, refused, or read
 module _ (b : List ℕ) (i : ℕ) (a : Circuit) (second m : Bool) where

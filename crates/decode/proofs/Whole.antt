@@ -16,6 +16,7 @@ use Rattle.lit_words.specs.Lit.{litBit, wordsOf}
 use Rattle.lit_words.proofs.Words.{words-say}
 use Rattle.channels.specs.Channels.{Channels}
 use Rattle.ports.specs.Ports.{limitOf}
+use Rattle.ports.proofs.Counts.{limit-zeros}
 use Rattle.refusals.specs.declared.Refusal.{Refusal}
 use Rattle.refusals.specs.declared.Refusal.the-variants.{CutShort, BadField, TrailingBytes, BrokenForm}
 use Rattle.refusals.specs.declared.Verdict.the-variants.{Granted as granted, Refused as refused}
@@ -25,7 +26,6 @@ use Rattle.ring.specs.declared.RingTable.{RingTable}
 use Rattle.form.specs.Form.{formOf}
 use Rattle.form.specs.Reader.{Field, got, fault}
 use Rattle.form.specs.Reading.{answeredBy, readPorts, mapBit, noneLitFrom, readMap, readRecords, checked, readTable, readOf}
-use Rattle.form.proofs.Ports.{limit-zeros}
 use Rattle.form.proofs.Laws.{write-back}
 use Rattle.form.proofs.Fields.{Holds}
 use Rattle.form.proofs.Whole.{ports-are}

@@ -8,11 +8,12 @@ use native.Mathlib.Omega.{arith}
 use lib.ListN.{length, drop}
 use lib.Seq.{sets, sets-eq}
 use borrow.Author.Tests.{lt-ltb, le-ltb, not-true, not-false}
-use Rattle.rules.proofs.Rules.{rules-hold, limits-hold}
+use Rattle.basis.proofs.Branch.{said}
 use Rattle.refusals.specs.Answer.{refusal}
 use Rattle.refusals.specs.declared.Refusal.the-variants.{ShortBuffer, BrokenRule}
 use Rattle.ring.specs.Table.{meetsRules}
 use Rattle.ring.specs.declared.RingTable.{RingTable}
+use Rattle.ring.proofs.TableRules.{table-limits}
 use Rattle.text.specs.Put.{Room, Put}
 use Rattle.form.specs.Form.{formOf}
 use Rattle.encode.specs.declared.Written.the-variants.{Length, Refused}
@@ -29,13 +30,10 @@ module _ (t : RingTable) (l : List ℕ) (v : Bool) (e : v ≡ meetsRules t) (h :
   broken-kept = rw (← e, not-true v h)
 
 -- it meets them
-pub unbroken : (t : RingTable) (v : Bool) → v ≡ meetsRules t → not v ≡ false → meetsRules t ≡ true
-unbroken t v e h = rw (← e) (not-false v h)
-
 module _ (t : RingTable) (l : List ℕ) (m : meetsRules t ≡ true) where
   -- the nodes are few enough for their ports
   pub few-nodes : t .nodes ≤ 64
-  few-nodes = limits-hold (t .nodes) (t .ports) (t .channels) (rules-hold (t .nodes) (t .ports) (t .channels) m) .most
+  few-nodes = table-limits t m .most
 
   module _ (n : ℕ) (g : n ≡ length (formOf t)) where
     -- the buffer is shorter than the form
@@ -75,6 +73,6 @@ pub write-long : (t : RingTable) (n : ℕ) → meetsRules t ≡ true → length 
 unfolding writtenOf
 write-long t n m k = rw (m, le-ltb n (length (formOf t)) k)
 
-pub ruleset brokenRules = (broken, broken-kept, unbroken)
+pub ruleset brokenRules = (broken, broken-kept, said, not-false)
 
 pub ruleset answerRules = (few-nodes, short, short-kept, form-room, written, form-over)

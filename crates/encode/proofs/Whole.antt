@@ -1,11 +1,10 @@
 -- Writing the whole form. Assumes nothing.
-use Prim.Native.Nat.{ℕ, zero, suc, _+_, _*_, _/_, _%_, _≤_}
-use mathlib.Core.Path.{_≡_, refl, sym}
+use Prim.Native.Nat.{ℕ, zero, suc, _+_, _*_, _/_, _%_}
+use mathlib.Core.Path.{_≡_, refl}
 use mathlib.Core.Bool.{Bool}
 use mathlib.Core.List.{List, [], _∷_, _++_}
 use native.Mathlib.Omega.{arith}
-use lib.ListN.{length, take}
-use lib.Seq.{length-take-le}
+use Rattle.basis.proofs.Arrays.{lent-within, lent-counted}
 use Rattle.lit_words.specs.declared.Lit.{Lit}
 use Rattle.lit_words.specs.Lit.{word}
 use Rattle.lit_words.proofs.Bits.{word-lt}
@@ -31,13 +30,6 @@ map-word f (suc k) p =
 map-halves : (f : ℕ → Bool) → mapBytes f 16 0 ≡ mapBytes f 8 0 ++ mapBytes f 8 64
 unfolding mapBytes
 map-halves f = refl
-
--- the ports of the nodes are there, and as many as the nodes
-pub ports-there : (n : ℕ) (ks : List ℕ) → n ≤ 64 → length ks ≡ 64 → n ≤ length ks
-ports-there n ks h e = omega arith
-
-pub ports-count : (n : ℕ) (ks : List ℕ) → n ≤ 64 → length ks ≡ 64 → n ≡ length (take n ks)
-ports-count n ks h e = sym (length-take-le n ks (omega arith))
 
 -- the parts of the form, one after the other
 module _ (t : RingTable) (lit : Lit) (e : lit ≡ litOf (t .channels)) (l : List ℕ) (h : Room l 0 (formOf t)) where
@@ -67,4 +59,4 @@ module _ (t : RingTable) (lit : Lit) (e : lit ≡ litOf (t .channels)) (l : List
         pub form-put : (l4 : List ℕ) (n4 : ℕ) → Put l3 n3 (recordsBytes (t .channels)) l4 n4 → Put l 0 (formOf t) l4 n4
         form-put l4 n4 q4 = done q4 (then q3 (then q2 (then q1 form-begun)))
 
-pub ruleset formRules = (ports-there, ports-count, nodes-room, ports-room, map-room, records-room, form-put)
+pub ruleset formRules = (lent-within, lent-counted, nodes-room, ports-room, map-room, records-room, form-put)

@@ -32,14 +32,14 @@ module _ (x y z : Bool) where
   unfolding fieldMap word
   small = omega (arith, bit-most x, bit-most y, bit-most z)
 
-  pub map-holds : (y || not z) ≡ true → mapHolds (fieldMap x y z) ≡ true
+  pub field-map-holds : (y || not z) ≡ true → mapHolds (fieldMap x y z) ≡ true
   unfolding mapHolds
-  map-holds h = rw (lt-ltb (fieldMap x y z) 8 small, map-bit1, map-bit2) h
+  field-map-holds h = rw (lt-ltb (fieldMap x y z) 8 small, map-bit1, map-bit2) h
 
 -- a map that holds is that of its bits
-pub map-is : (m : ℕ) → mapHolds m ≡ true → fieldMap (bitOf m 0) (bitOf m 1) (bitOf m 2) ≡ m
+pub field-map-is : (m : ℕ) → mapHolds m ≡ true → fieldMap (bitOf m 0) (bitOf m 1) (bitOf m 2) ≡ m
 unfolding mapHolds fieldMap word bitOf
-map-is m h =
+field-map-is m h =
     let l : m < 8 = ltb-true m 8 (and-left _ _ h) in
     omega (arith, digit (m / 1 % 2) (omega arith), digit (m / 2 % 2) (omega arith), digit (m / 4 % 2) (omega arith))
 

@@ -20,9 +20,9 @@ Holds P (got x r) = P x r
 Holds P (fault n) = Unit {0}
 
 -- a fact that follows from it holds too
-map-holds : {A : Type 0} (P Q : A → List ℕ → Type 0) (f : Field A) → Holds P f → ((x : A) (r : List ℕ) → P x r → Q x r) → Holds Q f
-map-holds P Q (got x r) h k = k x r h
-map-holds P Q (fault n) h k = tt
+holds-map : {A : Type 0} (P Q : A → List ℕ → Type 0) (f : Field A) → Holds P f → ((x : A) (r : List ℕ) → P x r → Q x r) → Holds Q f
+holds-map P Q (got x r) h k = k x r h
+holds-map P Q (fault n) h k = tt
 
 -- what holds after a field, from what holds of the field
 pub then-holds : {A B : Type 0} (P : A → List ℕ → Type 0) (Q : B → List ℕ → Type 0) (f : Field A) (g : A → Reader B)
@@ -69,7 +69,7 @@ bytes-are n s = go (leb n (length s)) refl
     go false e = tt
 
 pub byte-wrote : (s : List ℕ) → AreBytes s → Holds (Wrote (λ x. x ∷ []) s) (byte s)
-byte-wrote s h = map-holds _ _ (byte s) (byte-is s) (λ x r e. wrote (λ x. x ∷ []) s x r h e)
+byte-wrote s h = holds-map _ _ (byte s) (byte-is s) (λ x r e. wrote (λ x. x ∷ []) s x r h e)
 
 pub bytes-wrote : (n : ℕ) (s : List ℕ) → AreBytes s → Holds (λ v r. Wrote (λ v. v) s v r × (length v ≡ n)) (bytes n s)
-bytes-wrote n s h = map-holds _ _ (bytes n s) (bytes-are n s) (λ v r e. (wrote (λ v. v) s v r h (e .0), e .1))
+bytes-wrote n s h = holds-map _ _ (bytes n s) (bytes-are n s) (λ v r e. (wrote (λ v. v) s v r h (e .0), e .1))

@@ -17,7 +17,7 @@ use Rattle.form.specs.Bytes.{fourBytes, twoBytes, numberFrom, numberIn}
 use Rattle.form.specs.Form.{hasRemark, fieldMap, remarkBytes, circuitBytes, recordBytes, recordsBytes}
 use Rattle.form.specs.Reader.{got, bytes}
 use Rattle.form.specs.Reading.{readRemark, readCircuit, readSecond, readRecord, readPlace, readRecords}
-use Rattle.form.proofs.FieldMap.{map-holds, map-bit0, map-bit1, map-bit2}
+use Rattle.form.proofs.FieldMap.{field-map-holds, map-bit0, map-bit1, map-bit2}
 
 -- numbers are read back
 four-back : (n : ℕ) (s : List ℕ) → bytes 4 (fourBytes n ++ s) ≡ got (fourBytes n) s
@@ -37,13 +37,13 @@ unfolding twoBytes numberFrom
 two-number n = omega arith
 
 -- a remark is, where it is not 0
-remark-by : (r : ℕ) (s : List ℕ) (none : Bool) → eqb r 0 ≡ none → readRemark (not none) (remarkBytes r ++ s) ≡ got r s
+remark-read : (r : ℕ) (s : List ℕ) (none : Bool) → eqb r 0 ≡ none → readRemark (not none) (remarkBytes r ++ s) ≡ got r s
 unfolding readRemark remarkBytes
-remark-by r s true e = rw e (ap (λ (n : ℕ). got n s) (sym (eqb-true r 0 e)))
-remark-by r s false e = rw (e, two-back r s, two-number, e)
+remark-read r s true e = rw e (ap (λ (n : ℕ). got n s) (sym (eqb-true r 0 e)))
+remark-read r s false e = rw (e, two-back r s, two-number, e)
 
 remark-back : (r : ℕ) (s : List ℕ) → readRemark (not (eqb r 0)) (remarkBytes r ++ s) ≡ got r s
-remark-back r s = remark-by r s (eqb r 0) refl
+remark-back r s = remark-read r s (eqb r 0) refl
 
 -- a circuit is
 circuit-back : (c : Circuit) (s : List ℕ) → readCircuit (hasRemark c) (circuitBytes c ++ s) ≡ got c s
@@ -55,14 +55,14 @@ alone-back : (a : Circuit) (s : List ℕ) → readRecord (fieldMap (hasRemark a)
 unfolding readRecord readSecond
 alone-back a s =
     let x : Bool = hasRemark a in
-    rw (map-holds x false false refl, map-bit0 x false false, map-bit1 x false false, circuit-back a s)
+    rw (field-map-holds x false false refl, map-bit0 x false false, map-bit1 x false false, circuit-back a s)
 
 shared-back : (a b : Circuit) (s : List ℕ) → readRecord (fieldMap (hasRemark a) true (hasRemark b) ∷ circuitBytes a ++ (circuitBytes b ++ s)) ≡ got (shared a b) s
 unfolding readRecord readSecond
 shared-back a b s =
     let x : Bool = hasRemark a in
     let y : Bool = hasRemark b in
-    rw (map-holds x true y refl, map-bit0 x true y, map-bit1 x true y, map-bit2 x true y, circuit-back a (circuitBytes b ++ s), circuit-back b s)
+    rw (field-map-holds x true y refl, map-bit0 x true y, map-bit1 x true y, map-bit2 x true y, circuit-back a (circuitBytes b ++ s), circuit-back b s)
 
 -- a place is, lit or not
 place-back : (x : Slot) (s : List ℕ) → readPlace (isLit x) (recordBytes x ++ s) ≡ got x s

@@ -19,7 +19,7 @@ use Rattle.form.specs.Bytes.{fourBytes, twoBytes, numberFrom, numberIn}
 use Rattle.form.specs.Form.{hasRemark, fieldMap, remarkBytes, circuitBytes, recordBytes, recordsBytes}
 use Rattle.form.specs.Reader.{byte, bytes}
 use Rattle.form.specs.Reading.{readRemark, readCircuit, mapHolds, readSecond, readRecord, readPlace, readRecords}
-use Rattle.form.proofs.FieldMap.{map-is, second-absent}
+use Rattle.form.proofs.FieldMap.{field-map-is, second-absent}
 use Rattle.form.proofs.Fields.{Holds, then-holds, unless-holds, AreBytes, Wrote, wrote, byte-wrote, bytes-wrote}
 
 -- bytes are those of their number
@@ -76,11 +76,11 @@ second-wrote : (m : ℕ) (s : List ℕ) (a : Circuit) (s2 : List ℕ) → AreByt
     → (second : Bool) → bitOf m 1 ≡ second → Holds (λ x r. Wrote recordBytes s x r × (isLit x ≡ true)) (readSecond a second (bitOf m 2) s2)
 unfolding readSecond recordBytes
 second-wrote m s a s2 h k e t e0 false e1 =
-    let f : fieldMap (hasRemark a) false false ≡ m = rw (e1, second-absent m t e1, ← e0) at (map-is m t) in
+    let f : fieldMap (hasRemark a) false false ≡ m = rw (e1, second-absent m t e1, ← e0) at (field-map-is m t) in
     (wrote recordBytes s (alone a) s2 h (rw f e), refl)
 second-wrote m s a s2 h k e t e0 true e1 =
     then-holds _ _ (readCircuit (bitOf m 2) s2) _ (circuit-wrote (bitOf m 2) s2 k) λ b s3 q.
-    let f : fieldMap (hasRemark a) true (hasRemark b) ≡ m = rw (e1, ← e0, ← q .1) at (map-is m t) in
+    let f : fieldMap (hasRemark a) true (hasRemark b) ≡ m = rw (e1, ← e0, ← q .1) at (field-map-is m t) in
     (wrote recordBytes s (shared a b) s3 h (rw (f, append-assoc, ← q .0 .is) e), refl)
 
 record-wrote : (s : List ℕ) → AreBytes s → Holds (λ x r. Wrote recordBytes s x r × (isLit x ≡ true)) (readRecord s)

@@ -15,15 +15,16 @@ use Rattle.basis.proofs.Search.{at-every}
 use Rattle.channels.specs.Channels.{Channels, litAt}
 use Rattle.channels.proofs.LitPlaces.{unlit-not}
 use Rattle.ports.specs.Ports.{limitOf, eachAtMost}
-use Rattle.rules.proofs.Rules.{rules-hold, limits-hold}
+use Rattle.ports.proofs.Counts.{each-take}
 use Rattle.refusals.specs.declared.Refusal.the-variants.{NodeCount, PortCount, PortSum, BadField, BrokenForm}
 use Rattle.ring.specs.Table.{meetsRules, freshTable, withChannels}
 use Rattle.ring.specs.declared.RingTable.{RingTable}
+use Rattle.ring.proofs.TableRules.{table-rules, table-limits}
 use Rattle.form.specs.Form.{mapBytes, recordsBytes, portsBytes, formOf}
 use Rattle.form.specs.Reader.{got, byte, bytes, end}
 use Rattle.form.specs.Reading.{readPorts, mapBit, noneLitFrom, readMap, readRecords, checked, readTable}
 use Rattle.form.proofs.Words.{map-long, map-says, map-is}
-use Rattle.form.proofs.Ports.{total-nodes, nodes-zeros, each-take}
+use Rattle.form.proofs.Ports.{total-nodes, nodes-zeros}
 use Rattle.form.proofs.Trip.{records-back}
 use Rattle.form.proofs.Fields.{Holds, then-holds, then-any, unless-holds, AreBytes, Wrote, byte-is, bytes-are, bytes-wrote}
 use Rattle.form.proofs.Unique.{Listed, records-wrote}
@@ -60,8 +61,8 @@ checked-back t ks m e p = rw (e, p, m)
 pub table-back : (t : RingTable) → meetsRules t ≡ true → readTable (formOf t) ≡ got t []
 unfolding readTable formOf
 table-back t m =
-    let r = rules-hold (t .nodes) (t .ports) (t .channels) m in
-    let l = limits-hold (t .nodes) (t .ports) (t .channels) r in
+    let r = table-rules t m in
+    let l = table-limits t m in
     let lit : ℕ → Bool = litAt (t .channels) in
     let spare : total (drop (t .nodes) (t .ports)) ≡ 0 = eqb-true _ _ (r .spare) in
     let sum : total (portsBytes t) ≡ total (t .ports) = total-nodes (t .nodes) (t .ports) spare in

@@ -5,7 +5,7 @@ use mathlib.Core.List.{List, [], _∷_, _++_, append-assoc, append-nil}
 use native.Mathlib.Nat.{le-of-suc-le-suc, not-suc-le-zero, suc-add, add-suc, add-zero, zero-add}
 use native.Mathlib.Numerals.{add-one}
 use native.Mathlib.Omega.{arith}
-use lib.ListN.{length, set, take, length-set}
+use lib.ListN.{length, set, take, length-set, length-append}
 use lib.Seq.{take-suc-set, length-take-le}
 use Rattle.lightpath.specs.declared.Circuit.{Circuit}
 use Rattle.slots.specs.Slot.{held}
@@ -72,6 +72,15 @@ module _ {A : Type 0} {f : ℕ → List A} {room : ℕ} where
     counted = rw (← e, ← h .so-far) (length-take-le count array (omega (arith, h .long)));
     fits = l;
   }
+
+-- one more is stored after the list that an array holds
+pub gathers-more : {A : Type 0} {most count : ℕ} {array list : List A} (room : ℕ) (x : A) → length array ≡ room → most < room
+    → Gathers most array count list → Gathers (most + 1) (set array count x) (count + 1) (list ++ x ∷ [])
+gathers-more {count = count} {array} {list} room x e l h = record {
+  are = rw (add-one, take-suc-set array count x (omega (arith, h .fits)), h .are);
+  counted = rw (length-append list (x ∷ []), h .counted);
+  fits = omega (arith, h .fits);
+}
 
 -- the nonsharing circuit of place p, if there is one
 abbrev pub aloneAt : ℕ → Slot → List Standing

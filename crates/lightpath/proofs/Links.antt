@@ -31,8 +31,12 @@ on-ring N c h = record {
   apart = eqb-false _ _ (not-true _ (search (and-left, and-right)));
 }
 
+-- a circuit on a ring is on a longer one
+pub wider : (M N : ℕ) (c : Circuit) → M ≤ N → OnRing M c → OnRing N c
+wider M N c l o = record { sourceLow = o .sourceLow; sourceHigh = omega arith; destLow = o .destLow; destHigh = omega arith; apart = o .apart }
+
 -- the way clockwise from one node to another is less than once round the ring
-pub ahead-lt : (N s x : ℕ) → 1 ≤ N → ahead N s x < N
+ahead-lt : (N s x : ℕ) → 1 ≤ N → ahead N s x < N
 unfolding ahead
 ahead-lt N s x h = mod-lt (x + N - s) h
 

@@ -1,7 +1,7 @@
 -- Sharing: the rest of the product uses these laws of it and not its definition. Assumes nothing.
 use Prim.Native.Nat.{ℕ, _+_, _≤_}
 use mathlib.Core.Path.{_≡_, refl}
-use mathlib.Core.Bool.{Bool, true, false, _||_}
+use mathlib.Core.Bool.{Bool, true, false, or-comm}
 use native.Mathlib.Nat.{add-comm}
 use native.Mathlib.Omega.{arith}
 use lib.Dec.{eqb}
@@ -23,16 +23,9 @@ pub apart-never : (N : ℕ) (d : Direction) (a b : Circuit) → adjacent a b ≡
 apart-never N clockwise a b h = rw h
 apart-never N counterclockwise a b h = rw h
 
--- the order of two tests does not matter
-or-swap : (a b : Bool) → (a || b) ≡ (b || a)
-or-swap true true = refl
-or-swap true false = refl
-or-swap false true = refl
-or-swap false false = refl
-
--- nor the order of a pair for adjacency
-pub adjacent-swap : (a b : Circuit) → adjacent a b ≡ adjacent b a
-adjacent-swap a b = or-swap (eqb (a .destination) (b .source)) (eqb (b .destination) (a .source))
+-- the order of a pair does not matter for adjacency
+adjacent-swap : (a b : Circuit) → adjacent a b ≡ adjacent b a
+adjacent-swap a b = or-comm (eqb (a .destination) (b .source)) (eqb (b .destination) (a .source))
 
 -- nor for sharing
 pub can-swap : (N : ℕ) (d : Direction) (a b : Circuit) → canShare N d a b ≡ true → canShare N d b a ≡ true

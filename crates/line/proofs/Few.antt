@@ -1,15 +1,15 @@
 -- A line has room for few ports: each takes a space and a digit. Assumes nothing.
-use mathlib.Core.Path.{_≡_, refl, sym}
+use mathlib.Core.Path.{_≡_, refl}
 use mathlib.Core.Bool.{Bool, true, false}
 use mathlib.Core.List.{List, [], _∷_, _++_}
 use Prim.Native.Nat.{ℕ, suc, _+_, _*_, _≤_}
 use native.Mathlib.Omega.{arith}
 use lib.Dec.{eqb, leb}
 use lib.ListN.{length, take, length-append}
-use lib.Seq.{length-take-le}
 use borrow.Author.Tests.{leb-true}
 use Rattle.basis.specs.Choice.{pick}
 use Rattle.basis.specs.Count.{weigh}
+use Rattle.basis.proofs.Arrays.{lent-counted}
 use Rattle.text.specs.Bytes.{bytes}
 use Rattle.text.specs.Number.{number}
 use Rattle.text.specs.declared.Number.{Number}
@@ -93,6 +93,6 @@ module _ (l : List ℕ) (r : Line) (n count : ℕ) (e : r ≡ parseLine l) (k : 
   ports-within = let few : Few 257 (Ring n count) = rw (← e, k) at (few-line l) in omega arith
 
   pub ports-counted : count ≡ length (take count (r .ports))
-  ports-counted = sym (length-take-le count (r .ports) ports-within)
+  ports-counted = lent-counted (r .ports) count ports-within
 
 pub ruleset lending = (ports-within, ports-counted)

@@ -5,8 +5,8 @@ use mathlib.Core.List.{List, _∷_}
 use Prim.Native.Nat.{ℕ, _+_, _≤_, _<_}
 use native.Mathlib.Omega.{arith}
 use lib.ListN.{length, take, drop}
-use lib.Seq.{length-take-le}
 use borrow.Author.Tests.{le-leb, lt-leb}
+use Rattle.basis.proofs.Arrays.{lent-counted}
 use Rattle.text.specs.Bytes.{bytes}
 use Rattle.line.specs.declared.Line.{Line}
 use Rattle.line.specs.Words.{otherWords, wordLength, sameText}
@@ -21,7 +21,7 @@ line-long l x h e = e ∙ sym (rw (lt-leb (length l) 256 h))
 module _ (l : List ℕ) (end : ℕ) (e : end ≡ 0 + wordLength (drop 0 l)) where
   -- the first word, as a part of the line, ends where it ends
   pub first-long : end ≡ length (take end l)
-  first-long = sym (length-take-le end l (end-within l 0 end e (omega arith)))
+  first-long = lent-counted l end (end-within l 0 end e (omega arith))
 
   module _ (h : length l ≤ 256) where
     -- a line of at most 256 bytes goes by its first word

@@ -8,7 +8,6 @@ use native.Mathlib.Omega.{arith}
 use lib.Dec.{ltb}
 use lib.Pow.{pow-mono}
 use lib.Count.{ones, trailingZeros}
-use mir.Val.{boolByte}
 use borrow.Author.Tests.{lt-ltb, le-ltb, ltb-true, ltb-false}
 use Rattle.basis.specs.Choice.{bit}
 use Rattle.basis.specs.Count.{countBelow}
@@ -72,11 +71,6 @@ words-say f p h = go (ltb p 64) refl
 pub record Built (f : ℕ → Bool) (p : ℕ) (l : Lit) : Type 0 where
   pub low-word : l .low ≡ word f (64 - p) p
   pub high-word : l .high ≡ word f (64 - (p - 64)) (64 + (p - 64))
-
--- a test cast to a number
-pub byte-bit : (r : Bool) → boolByte r ≡ bit r
-byte-bit true = refl
-byte-bit false = refl
 
 -- a word of places of which none passes is 0
 word-none : (f : ℕ → Bool) (k i : ℕ) → ((p : ℕ) → i ≤ p → p < i + k → f p ≡ false) → word f k i ≡ 0

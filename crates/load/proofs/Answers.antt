@@ -6,12 +6,12 @@ use mathlib.Core.List.{List, _++_}
 use native.Mathlib.Omega.{arith}
 use lib.ListN.{length, drop}
 use borrow.Author.Tests.{lt-ltb, le-ltb}
-use Rattle.rules.proofs.Rules.{rules-hold, limits-hold}
 use Rattle.refusals.specs.declared.Refusal.the-variants.{ShortBuffer, BrokenRule}
 use Rattle.refusals.specs.declared.Verdict.{Verdict}
 use Rattle.refusals.specs.declared.Verdict.the-variants.{Granted as granted, Refused as refused}
 use Rattle.ring.specs.Table.{meetsRules}
 use Rattle.ring.specs.declared.RingTable.{RingTable}
+use Rattle.ring.proofs.TableRules.{table-limits}
 use Rattle.load.specs.Load.{loads}
 use Rattle.load.specs.Report.{reportOf, bufferAfter}
 
@@ -38,5 +38,4 @@ module _ (t : RingTable) (out : List ℕ) where
 
 -- a ring that meets the rules has nodes
 pub some-nodes : (t : RingTable) → meetsRules t ≡ true → 0 < t .nodes
-some-nodes t h =
-    let limits = limits-hold (t .nodes) (t .ports) (t .channels) (rules-hold (t .nodes) (t .ports) (t .channels) h) in omega arith
+some-nodes t h = let limits = table-limits t h in omega arith

@@ -17,11 +17,6 @@ use Rattle.slots.specs.declared.Slot.the-variants.{Alone as alone, Shared as sh
 use Rattle.channels.specs.Channels.{Channels, at}
 use Rattle.load.specs.Load.{lightpathsBelow, linkLoad}
 
--- a test as a byte is at most 1
-pub byte-most : (x : Bool) → boolByte x ≤ 1
-byte-most true = omega arith
-byte-most false = omega arith
-
 -- n of the circuits of a place use the link, which are at most two
 abbrev pub Counts : ℕ → Direction → ℕ → Slot → ℕ → Type 0
 Counts N d l s n = (n ≡ users N d l (held s)) × (n ≤ 2)

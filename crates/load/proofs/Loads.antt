@@ -20,10 +20,11 @@ use Rattle.slots.specs.declared.Slot.{Slot}
 use Rattle.slots.specs.declared.Slot.the-variants.{Unlit as unlit, Alone as alone, Shared as shared}
 use Rattle.channels.specs.Channels.{Channels, at}
 use Rattle.ports.specs.Ports.{wavelengths, limitOf}
-use Rattle.rules.proofs.Rules.{Rules, rules-hold}
+use Rattle.rules.proofs.Rules.{Rules}
 use Rattle.rules.proofs.Fits.{rules-links}
 use Rattle.ring.specs.Table.{meetsRules}
 use Rattle.ring.specs.declared.RingTable.{RingTable}
+use Rattle.ring.proofs.TableRules.{table-rules}
 use Rattle.load.specs.Load.{lightpathsBelow, linkLoad, loadsTo, loads}
 
 -- the lightpaths over link l in direction d
@@ -82,11 +83,8 @@ pub loads-most : (t : RingTable) → meetsRules t ≡ true → All (λ b. b ≤ 
 unfolding loadsTo
 loads-most t meets = upTo (t .nodes) (omega arith)
   where
-    rules : Rules (t .nodes) (t .ports) (t .channels)
-    rules = rules-hold (t .nodes) (t .ports) (t .channels) meets
-
     most : (d : Direction) (k : ℕ) → suc k ≤ t .nodes → linkLoad (t .nodes) (t .channels) d (suc k) ≤ wavelengths (t .ports)
-    most d k i = load-most (t .nodes) (t .ports) (t .channels) rules d (suc k) (omega arith) i
+    most d k i = load-most (t .nodes) (t .ports) (t .channels) (table-rules t meets) d (suc k) (omega arith) i
 
     upTo : (k : ℕ) → k ≤ t .nodes → All (λ b. b ≤ wavelengths (t .ports)) (loadsTo k (t .nodes) (t .channels))
     upTo zero i = tt

@@ -8,13 +8,13 @@ use borrow.Author.Tests.{leb-true, ltb-true, lt-ltb, le-ltb, not-false}
 use Rattle.basis.proofs.Bools.{and-left, and-right}
 use Rattle.lightpath.specs.Circuit.{onRing}
 use Rattle.ports.specs.Ports.{wavelengths}
-use Rattle.rules.proofs.Rules.{rules-hold, limits-hold}
 use Rattle.refusals.specs.declared.Refusal.{Refusal}
 use Rattle.refusals.specs.declared.Verdict.{Verdict}
 use Rattle.refusals.specs.declared.Refusal.the-variants.{OffRing, NoWavelength, NoDirection}
 use Rattle.refusals.specs.declared.Verdict.the-variants.{Granted as granted, Refused as refused}
 use Rattle.ring.specs.Table.{meetsRules}
 use Rattle.ring.specs.declared.RingTable.{RingTable}
+use Rattle.ring.proofs.TableRules.{table-limits}
 use Rattle.ring.proofs.Causes.{none-holds}
 use Rattle.monitor.specs.Link.{refusalOf, way, circuitOn, linkCauses, linkVerdict, linkOf, Asked}
 
@@ -49,7 +49,7 @@ module _ (t : RingTable) (l w d : ℕ) (v : Verdict) (e : v ≡ linkVerdict t l 
   pub asked : meetsRules t ≡ true → v ≡ granted → Asked t l w
   unfolding linkVerdict
   asked meets g =
-      let limits = limits-hold (t .nodes) (t .ports) (t .channels) (rules-hold (t .nodes) (t .ports) (t .channels) meets) in
+      let limits = table-limits t meets in
       let clear = none-holds (linkCauses t l w d) (sym e ∙ g) in
       let link : onRing (t .nodes) l ≡ true = not-false (onRing (t .nodes) l) (clear .0) in
       record {

@@ -19,10 +19,10 @@ use Rattle.lightpath.proofs.Places.{direction-place}
 use Rattle.slots.specs.Slot.{held}
 use Rattle.channels.specs.Channels.{at}
 use Rattle.ports.specs.Ports.{wavelengths}
-use Rattle.rules.proofs.Rules.{rules-hold}
 use Rattle.rules.proofs.Fits.{rules-links}
 use Rattle.ring.specs.Table.{meetsRules}
 use Rattle.ring.specs.declared.RingTable.{RingTable}
+use Rattle.ring.proofs.TableRules.{table-rules}
 use Rattle.monitor.specs.Link.{none, running, circuitOn, linkVerdict, linkOf}
 
 -- some circuits, lightpaths in direction d, and link l
@@ -63,7 +63,7 @@ module _ (t : RingTable) (meets : meetsRules t ≡ true) (l w : ℕ) (d : Direct
   unfolding users
   one-runs =
       rw (direction-place w d) at
-      (rules-links (t .nodes) (t .ports) (t .channels) (rules-hold (t .nodes) (t .ports) (t .channels) meets) (placeOf w d) l low high)
+      (rules-links (t .nodes) (t .ports) (t .channels) (table-rules t meets) (placeOf w d) l low high)
 
   module _ (below : w < wavelengths (t .ports)) where
     -- the question is not refused

@@ -1,32 +1,23 @@
 -- The candidates in an array, and the search for their first adjacent pair: how far it is, and each step of its loops. Each law takes
 -- a callee's answer and the branch's test as they stand in the record of a need, so that `search (needs, seek)` finds them. Assumes nothing.
-use Prim.Native.Nat.{ℕ, zero, suc, _+_, _≤_, _<_}
+use Prim.Native.Nat.{ℕ, _+_, _≤_, _<_}
 use mathlib.Core.Path.{_≡_, refl, sym, ap, _∙_}
 use mathlib.Core.Bool.{Bool, true, false}
 use mathlib.Core.List.{List, [], _∷_, _++_}
-use native.Mathlib.Nat.{add-zero, le-of-suc-le-suc, not-suc-le-zero}
+use native.Mathlib.Nat.{add-zero}
 use native.Mathlib.Numerals.{add-one}
 use native.Mathlib.Omega.{arith}
-use lib.ListN.{length, take, drop, getD, set, length-append, length-drop, drop-of-length-le}
-use lib.Seq.{drop-cons, drop-drop, getD-drop, getD-take, length-take-le, take-suc-set}
+use lib.ListN.{length, take, drop, getD, length-drop, drop-of-length-le}
+use lib.Seq.{drop-cons, drop-drop, getD-drop, getD-take, length-take-le}
 use Rattle.basis.specs.Search.{firstPlace, pairsWith, pairsOf}
+use Rattle.basis.proofs.Search.{any-default}
 use Rattle.basis.proofs.Arrays.{array-length}
 use Rattle.lightpath.specs.declared.Circuit.{Circuit}
 use Rattle.channels.specs.Channels.{Channels}
 use Rattle.channels.specs.Nonsharing.{adjacentPair}
 use Rattle.channels.specs.declared.Standing.{Standing}
-use Rattle.gather.specs.Gathering.{Gathers}
 use Rattle.steps.specs.Steps.{newcomer, candidates, passed, passedIn}
 use Rattle.pairs.specs.Pairs.{Pair, blankStanding, firstPair, pairOf}
-
--- one more is stored after the list that an array holds
-pub gathers-more : {A : Type 0} {most count : ℕ} {array list : List A} (room : ℕ) (x : A) → length array ≡ room → most < room
-    → Gathers most array count list → Gathers (most + 1) (set array count x) (count + 1) (list ++ x ∷ [])
-gathers-more {count = count} {array} {list} room x e l h = record {
-  are = rw (add-one, take-suc-set array count x (omega (arith, h .fits)), h .are);
-  counted = rw (length-append list (x ∷ []), h .counted);
-  fits = omega (arith, h .fits);
-}
 
 -- k elements have been passed, none of which is a hit, and these are left
 pub record Left {A : Type 0} (f : A → Bool) (l : List A) (k : ℕ) (rest : List A) : Type 0 where
@@ -103,12 +94,6 @@ module _ {list : List Standing} {n : ℕ} where
   pairs-end {i} p q h found = absurd (omega (arith, left-end (rw (past list n i (q .room) h) at (q .left))))
 
 pub ruleset seek = (array-length, pairs-start, row-enter, row-leave, pair-miss, pair-hit, pairs-end)
-
--- an element that there is does not depend on the default
-any-default : {A : Type 0} (d e : A) (l : List A) (i : ℕ) → i < length l → getD l i d ≡ getD l i e
-any-default d e [] i h = absurd (not-suc-le-zero h)
-any-default d e (x ∷ xs) zero h = refl
-any-default d e (x ∷ xs) (suc i) h = any-default d e xs i (le-of-suc-le-suc h)
 
 -- the first adjacent pair of the list of candidates is the pair found
 pub pair-of : (m : ℕ) (t : Channels) (c : Circuit) (l : List Standing) (r : Pair) → l ≡ candidates m t c

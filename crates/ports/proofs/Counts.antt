@@ -1,18 +1,20 @@
--- The tests on port counts, node by node. Assumes nothing.
-use Prim.Native.Nat.{ℕ, zero, suc, _-_, _≤_, _<_}
+-- The tests on port counts, node by node, in part, and with zeros after them. Assumes nothing.
+use Prim.Native.Nat.{ℕ, zero, suc, _-_, _≤_, _<_, zero-le}
 use mathlib.Core.Path.{_≡_, refl, sym, _∙_}
 use mathlib.Core.Bool.{Bool, true, false}
-use mathlib.Core.List.{List, [], _∷_}
+use mathlib.Core.List.{List, [], _∷_, _++_}
 use native.Mathlib.Decide.{ℕ-discrete}
 use native.Mathlib.Omega.{arith}
 use lib.Dec.{eqb, leb}
-use lib.ListN.{length, getD, take, drop, List·getD-eq-default}
-use borrow.Author.Tests.{eq-eqb, ne-eqb}
+use lib.ListN.{length, getD, take, drop, List·getD-eq-default, replicate}
+use borrow.Author.Tests.{eq-eqb, ne-eqb, le-leb}
 use Rattle.basis.specs.Count.{total}
 use Rattle.basis.specs.Search.{everyBelow}
+use Rattle.basis.proofs.Bools.{and-left, and-right, and-both}
 use Rattle.basis.proofs.Scan.{Passed, scan-all, scan-fail}
+use Rattle.basis.proofs.Sums.{total-padded}
 use Rattle.basis.proofs.Fold.{total-parts}
-use Rattle.ports.specs.Ports.{eachAtMost, portsAt}
+use Rattle.ports.specs.Ports.{eachAtMost, portsAt, limitOf}
 
 -- the test of every count, position by position
 each-below : (m : ℕ) (ks : List ℕ) → eachAtMost m ks ≡ everyBelow (length ks) (λ j. leb (getD ks j 0) m)
@@ -37,6 +39,22 @@ spare ks n s f e g = go (ℕ-discrete s f)
     go : Dec (s ≡ f) → eqb s f ≡ eqb (total (drop n ks)) 0
     go (yes h) = eq-eqb s f h ∙ sym (eq-eqb (total (drop n ks)) 0 (omega (arith, total-parts ks n)))
     go (no h) = ne-eqb s f h ∙ sym (ne-eqb (total (drop n ks)) 0 (λ z. h (omega (arith, total-parts ks n))))
+
+-- zeros after the port counts are within every bound
+pub each-zeros : (m : ℕ) (ks : List ℕ) (n : ℕ) → eachAtMost m (ks ++ replicate n 0) ≡ eachAtMost m ks
+each-zeros m [] zero = refl
+each-zeros m [] (suc n) = rw (le-leb 0 m zero-le) (each-zeros m [] n)
+each-zeros m (k ∷ ks) n = rw (each-zeros m ks n)
+
+-- and leave the limit as it is
+pub limit-zeros : (ks : List ℕ) (n : ℕ) → limitOf (ks ++ replicate n 0) ≡ limitOf ks
+limit-zeros ks n = rw (total-padded ks n)
+
+-- counts that keep to their limit do so in part
+pub each-take : (m N : ℕ) (ks : List ℕ) → eachAtMost m ks ≡ true → eachAtMost m (take N ks) ≡ true
+each-take m zero ks h = refl
+each-take m (suc N) [] h = refl
+each-take m (suc N) (k ∷ ks) h = and-both (leb k m) _ (and-left (leb k m) (eachAtMost m ks) h) (each-take m N ks (and-right (leb k m) (eachAtMost m ks) h))
 
 -- the ports of a node stand one position lower
 pub ports-at : (ks : List ℕ) (node i : ℕ) → i ≡ node → (i ≡ 0 → ⊥) → getD ks (i - 1) 0 ≡ portsAt ks node

@@ -1,2 +1,2 @@
--- The loops that test port counts.
+-- The laws of port counts, and the loops that test them.
 pub mod Counts

@@ -10,7 +10,7 @@ use lib.ListN.{length}
 use borrow.Author.Tests.{lt-ltb, le-ltb, ltb-true, ltb-false, not-false, eq-eqb, ne-eqb}
 use Rattle.basis.specs.Choice.{pick}
 use Rattle.basis.specs.Count.{All}
-use Rattle.basis.proofs.Branch.{pick-true, pick-false, said}
+use Rattle.basis.proofs.Branch.{pick-true, pick-false, said, not-said}
 use Rattle.basis.proofs.Bools.{and-both, or-false, not-leb, not-ltb}
 use Rattle.lightpath.specs.Circuit.{onRing}
 use Rattle.lightpath.specs.declared.Circuit.{Circuit}
@@ -26,10 +26,6 @@ use Rattle.refusals.specs.declared.Verdict.the-variants.{Granted as granted, Re
 use Rattle.ring.specs.Table.{RingTable}
 use Rattle.ring.specs.Opening.{surveyed, requestCauses, openCauses}
 use Rattle.ring.specs.Demand3.{Reason, reasons, someGiven, firstNumber}
-
--- a test that a call made, denied
-pub denied : (r b t : Bool) → r ≡ b → not r ≡ t → not b ≡ t
-denied r b t e h = rw (← e) h
 
 -- tests of what was seen are tests of the table
 module _ (t : RingTable) (c : Circuit) (v : Survey) (e : v ≡ surveyed t c) where
@@ -47,7 +43,7 @@ module _ (t : RingTable) (c : Circuit) (v : Survey) (e : v ≡ surveyed t c) whe
   seen-receives r h = rw e at h
 
 -- for `search verdict`: a verdict from the tests that the code made
-pub ruleset verdict = (pick-true, pick-false, said, denied, eq-eqb, ne-eqb, seen-live, seen-dead, seen-sends, seen-receives)
+pub ruleset verdict = (pick-true, pick-false, said, not-said, eq-eqb, ne-eqb, seen-live, seen-dead, seen-sends, seen-receives)
 
 -- one by one a cause holds where its reason is given, and has its number
 abbrev Agree : List Cause → List Reason → Type 0

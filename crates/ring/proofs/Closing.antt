@@ -8,16 +8,16 @@ use mathlib.Core.List.{[], _∷_}
 use lib.Dec.{ltb}
 use borrow.Author.Tests.{not-true, lt-ltb, le-ltb}
 use Rattle.channels.specs.Channels.{Channels, at, live, whereIs, circuitOf}
-use Rattle.rules.proofs.Rules.{Rules, rules-hold, limits-hold}
+use Rattle.channels.proofs.Numbers.{live-where}
 use Rattle.steps.specs.Closing.{closed}
 use Rattle.steps.specs.Kept.{Kept}
 use Rattle.steps.proofs.Closing.{closes, close-there}
 use Rattle.refusals.specs.declared.Refusal.the-variants.{NotLive, BrokenRule}
 use Rattle.refusals.specs.declared.Verdict.the-variants.{Granted as granted, Refused as refused}
+use Rattle.refusals.specs.Answer.{refusal, verdictAnswer}
 use Rattle.ring.specs.Table.{RingTable, meetsRules, withChannels}
 use Rattle.ring.specs.Closing.{Answered, closedBy, closeOf}
-use Rattle.refusals.specs.Answer.{refusal, verdictAnswer}
-use Rattle.ring.proofs.Live.{live-where}
+use Rattle.ring.proofs.TableRules.{table-rules, table-limits}
 
 -- from the table t to the one answered the circuit of number n is taken off, and nothing else is changed
 pub record TakenOff (t : RingTable) (n : ℕ) (o : Answered) : Type 0 where
@@ -40,23 +40,19 @@ unfolding closeOf
 close-unmet t n r e h = rw (← e, not-true r h)
 
 module _ (t : RingTable) (n : ℕ) (rules : meetsRules t ≡ true) where
-  -- the rules, one by one
-  each : Rules (t .nodes) (t .ports) (t .channels)
-  each = rules-hold (t .nodes) (t .ports) (t .channels) rules
-
   -- a live number is closed
-  pub close-live : live (t .channels) n ≡ true → closeOf t n ≡ closedBy t n granted
+  close-live : live (t .channels) n ≡ true → closeOf t n ≡ closedBy t n granted
   unfolding closeOf
   close-live l = rw (rules, l)
 
   -- another is refused by 15
-  pub close-dead : live (t .channels) n ≡ false → closeOf t n ≡ closedBy t n (refused NotLive)
+  close-dead : live (t .channels) n ≡ false → closeOf t n ≡ closedBy t n (refused NotLive)
   unfolding closeOf
   close-dead d = rw (rules, d)
 
   -- it is live where it has a place
   placed : live (t .channels) n ≡ ltb (whereIs (t .channels) n) 128
-  placed = sym (live-where (t .channels) n (limits-hold (t .nodes) (t .ports) (t .channels) each .long))
+  placed = live-where (t .channels) n (table-limits t rules .long)
 
   -- a number that was found is closed
   pub close-found : (p : ℕ) (chs : Channels) → p ≡ whereIs (t .channels) n → p < 128 → chs ≡ closed (t .channels) n
@@ -69,7 +65,7 @@ module _ (t : RingTable) (n : ℕ) (rules : meetsRules t ≡ true) where
 
   -- what the closing of the places keeps
   keeps : live (t .channels) n ≡ true → Kept (t .nodes) (t .ports) (t .channels) (circuitOf (t .channels) n ∷ []) [] (closed (t .channels) n) []
-  keeps l = closes (t .nodes) (t .ports) (t .channels) each n l
+  keeps l = closes (t .nodes) (t .ports) (t .channels) (table-rules t rules) n l
 
   -- the circuit of a live number is taken off
   pub close-takes : live (t .channels) n ≡ true → TakenOff t n (closeOf t n)

@@ -20,9 +20,9 @@ use Rattle.rules.proofs.Rules.{Rules, rules-hold, limits-hold}
 use Rattle.assign.proofs.ByValue.{assigned-counts}
 use Rattle.refusals.specs.Refusal.{judged}
 use Rattle.refusals.specs.declared.Verdict.the-variants.{Granted as granted, Refused as refused}
+use Rattle.refusals.specs.Answer.{refusal}
 use Rattle.ring.specs.Table.{RingTable, meetsRules, withChannels}
 use Rattle.ring.specs.Opening.{Opened, Decision, openCauses, openOf, lentAfter}
-use Rattle.refusals.specs.Answer.{refusal}
 use Rattle.ring.specs.Demand3.{reasons, someGiven, RefusedBy, firstNumber, Refused3, Served3, ServedBy, Demand3}
 use Rattle.ring.proofs.Causes.{none-holds, agree, none-given, some-given}
 use Rattle.ring.proofs.Served.{assigned, decided, serves}

@@ -9,9 +9,8 @@ use lib.Dec.{leb}
 use lib.ListN.{length, getD, take, set, replicate}
 use lib.Seq.{take-suc, take-all, length-take-le}
 use borrow.Author.Tests.{lt-leb, le-leb}
-use Rattle.basis.specs.Count.{total}
-use Rattle.basis.proofs.Sums.{total-append, total-zeros}
-use Rattle.rules.proofs.Fresh.{each-zeros}
+use Rattle.basis.proofs.Sums.{total-padded}
+use Rattle.ports.proofs.Counts.{each-zeros}
 use Rattle.refusals.specs.Refusal.{judged}
 use Rattle.ring.specs.Making.{portCauses}
 
@@ -52,9 +51,7 @@ pub ruleset filled = (filled-start, filled-next, filled-end)
 
 -- zeros behind the counts change no verdict
 pub fields-judged : (ks : List ℕ) (n : ℕ) → judged (portCauses (ks ++ replicate n 0)) ≡ judged (portCauses ks)
-fields-judged ks n =
-    let e : total (ks ++ replicate n 0) ≡ total ks = omega (arith, total-append ks (replicate n 0), total-zeros n) in
-    rw (each-zeros 64 ks n, e)
+fields-judged ks n = rw (each-zeros 64 ks n, total-padded ks n)
 
 -- a sum that a call gave is above a limit, or within it
 pub above : (r s m : ℕ) → r ≡ s → m < r → not (leb s m) ≡ true

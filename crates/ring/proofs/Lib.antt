@@ -1,6 +1,6 @@
--- The laws of the ring table: what is refused, demand 3, and that making, opening and closing keep the ring rules; and the lending of a
--- local array, and of a list that was lent.
-pub mod Live
+-- The laws of the ring table: what the ring rules say of it, what is refused, demand 3, and that making, opening and closing keep the
+-- rules; and the lending of a local array, and of a list that was lent.
+pub mod TableRules
 pub mod Causes
 pub mod Served
 pub mod Demand

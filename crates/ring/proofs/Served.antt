@@ -13,7 +13,6 @@ use Rattle.lightpath.specs.declared.Circuit.{Circuit}
 use Rattle.moves.specs.Records.{listed}
 use Rattle.ports.specs.Ports.{limitOf}
 use Rattle.rules.specs.Rules.{unlitFrom}
-use Rattle.rules.proofs.Rules.{Rules, rules-hold, limits-hold}
 use Rattle.rules.proofs.Allowable.{Allowable}
 use Rattle.steps.specs.Steps.{Ready}
 use Rattle.steps.specs.Kept.{Served}
@@ -27,10 +26,11 @@ use Rattle.refusals.specs.Refusal.{_if_, judged}
 use Rattle.refusals.specs.declared.Refusal.the-variants.{ShortList, BrokenRule}
 use Rattle.refusals.specs.declared.Verdict.{Verdict}
 use Rattle.refusals.specs.declared.Verdict.the-variants.{Granted as granted, Refused as refused}
+use Rattle.refusals.specs.Answer.{Answer}
 use Rattle.ring.specs.Table.{RingTable, meetsRules}
 use Rattle.ring.specs.Opening.{Decision, surveyed, requestCauses, openCauses, served, refusing, decidedBy, decideOf}
-use Rattle.refusals.specs.Answer.{Answer}
 use Rattle.ring.specs.Answer.{openingAnswer}
+use Rattle.ring.proofs.TableRules.{table-rules, table-limits}
 use Rattle.ring.proofs.Causes.{granted-rest, allowable}
 
 -- the answer of the steps for a request
@@ -49,10 +49,6 @@ pub served-by : (t : RingTable) (c : Circuit) (m : ℕ) (a : Assigned) (d : Deci
 served-by t c m a d e l k = k ∙ ap (served t) (rw (e, l))
 
 module _ (t : RingTable) (c : Circuit) (n : ℕ) (rules : meetsRules t ≡ true) where
-  -- the rules, one by one
-  each : Rules (t .nodes) (t .ports) (t .channels)
-  each = rules-hold (t .nodes) (t .ports) (t .channels) rules
-
   -- 22 does not come up
   pub decided : (v : Verdict) → judged (openCauses t c n) ≡ v → decideOf t c n ≡ decidedBy t c v
   unfolding decideOf
@@ -65,7 +61,7 @@ module _ (t : RingTable) (c : Circuit) (n : ℕ) (rules : meetsRules t ≡ true)
   -- its places can be surveyed below the limit
   pub open-survey : (m : ℕ) → m ≡ limitOf (t .ports) → (0 < t .nodes) × (m ≤ 128) × (unlitFrom m (t .channels) ≡ true)
   open-survey m e =
-      let hold = limits-hold (t .nodes) (t .ports) (t .channels) each in
+      let hold = table-limits t rules in
       rw e (omega (arith, hold .three), hold .below, search (and-left, and-right) depth 8)
 
   -- and say what they say below it
@@ -78,12 +74,12 @@ module _ (t : RingTable) (c : Circuit) (n : ℕ) (rules : meetsRules t ≡ true)
 
   -- the table is ready for its steps
   pub open-ready : (v : Verdict) (m : ℕ) → v ≡ judged (openCauses t c n) → v ≡ granted → m ≡ limitOf (t .ports) → Ready (t .nodes) m (t .channels) c
-  open-ready v m e h l = rw l (ready (t .nodes) (t .ports) (t .channels) c each (permits (sym e ∙ h)))
+  open-ready v m e h l = rw l (ready (t .nodes) (t .ports) (t .channels) c (table-rules t rules) (permits (sym e ∙ h)))
 
   -- and they serve it
   pub serves : judged (openCauses t c n) ≡ granted
       → Served (t .nodes) (t .ports) (t .channels) c (assigned t c .channels) (assigned t c .place .0) (listed (assigned t c .moves))
-  serves e = assigned-serves (t .nodes) (t .ports) (t .channels) c each (permits e)
+  serves e = assigned-serves (t .nodes) (t .ports) (t .channels) c (table-rules t rules) (permits e)
 
   -- whatever the answer, the table after it meets the ring rules
   pub open-rules : meetsRules (decideOf t c n .opened .table) ≡ true

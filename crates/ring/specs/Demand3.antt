@@ -18,9 +18,9 @@ use Rattle.usage.specs.Usage.{sends, receives}
 use Rattle.rules.specs.Rules.{carried}
 use Rattle.steps.specs.Kept.{moved, Names}
 use Rattle.assign.specs.Assigned.{assignedOf}
+use Rattle.refusals.specs.Answer.{refusal}
 use Rattle.ring.specs.Table.{RingTable, meetsRules}
 use Rattle.ring.specs.Opening.{Opening, Opened}
-use Rattle.refusals.specs.Answer.{refusal}
 use Rattle.ring.specs.Answer.{openingAnswer}
 
 -- a number of document 01, and whether its cause is there

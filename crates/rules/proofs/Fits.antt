@@ -41,7 +41,7 @@ module _ (N p : ℕ) where
   }
 
   -- and back
-  pub couple-fits : (a b : Circuit) → Couple N p a b → fits N p (shared a b) ≡ true
+  couple-fits : (a b : Circuit) → Couple N p a b → fits N p (shared a b) ≡ true
   couple-fits a b k = and-both _ _ (and-both _ _ (k .first) (k .second)) (and-both _ _ (lt-ltb _ _ (k .order)) (k .can))
 
   -- one alone fits anywhere if it is on the ring
@@ -74,7 +74,7 @@ module _ (N p : ℕ) where
       go false = alone-fits a (couple a b h .first)
 
   -- no link carries two of its lightpaths
-  pub fits-links : (s : Slot) (l : ℕ) → fits N p s ≡ true → 1 ≤ l → l ≤ N → users N (directionOf p) l (held s) ≤ 1
+  fits-links : (s : Slot) (l : ℕ) → fits N p s ≡ true → 1 ≤ l → l ≤ N → users N (directionOf p) l (held s) ≤ 1
   unfolding users
   fits-links unlit l h low high = zero-le
   fits-links (alone a) l h low high = omega (arith, bit-most (uses N (directionOf p) a l))

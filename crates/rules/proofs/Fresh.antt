@@ -1,25 +1,20 @@
 -- A ring within the limits, with no circuits, meets the ring rules. Assumes nothing.
-use Prim.Native.Nat.{ℕ, zero, suc, _-_, _≤_, _<_, zero-le}
+use Prim.Native.Nat.{ℕ, _-_, _≤_, _<_, zero-le}
 use mathlib.Core.Path.{_≡_, refl, ap, _∙_}
 use mathlib.Core.Bool.{true}
-use mathlib.Core.List.{List, [], _∷_, _++_}
+use mathlib.Core.List.{List, _++_}
 use native.Mathlib.Omega.{arith}
 use lib.ListN.{length, drop, replicate, length-append, length-replicate, getD-replicate}
 use lib.Seq.{drop-at}
 use borrow.Author.Tests.{eq-eqb, le-leb}
 use Rattle.basis.specs.Count.{total}
 use Rattle.basis.proofs.Bools.{and-both}
-use Rattle.basis.proofs.Sums.{total-append, total-zeros}
+use Rattle.basis.proofs.Sums.{total-zeros, total-padded}
 use Rattle.slots.specs.declared.Slot.the-variants.{Unlit as unlit}
 use Rattle.channels.specs.Channels.{unlitChannel, unlitChannels, at}
 use Rattle.ports.specs.Ports.{eachAtMost}
+use Rattle.ports.proofs.Counts.{each-zeros}
 use Rattle.rules.proofs.Rules.{Rules}
-
--- zeros after the port counts are within every bound
-pub each-zeros : (m : ℕ) (ks : List ℕ) (n : ℕ) → eachAtMost m (ks ++ replicate n 0) ≡ eachAtMost m ks
-each-zeros m [] zero = refl
-each-zeros m [] (suc n) = rw (le-leb 0 m zero-le) (each-zeros m [] n)
-each-zeros m (k ∷ ks) n = rw (each-zeros m ks n)
 
 -- no place is lit
 blank-unlit : (p : ℕ) → p < 128 → at unlitChannels p ≡ unlit
@@ -31,7 +26,7 @@ pub fresh-rules : (N : ℕ) (ks : List ℕ) → 3 ≤ N → N ≤ 64 → length 
 fresh-rules N ks three most long each sum = record {
   bounds =
       and-both _ _ (and-both _ _ (and-both _ _ (le-leb 3 N three) (le-leb N 64 most)) (each-zeros 64 ks (64 - length ks) ∙ each))
-      (le-leb (total (ks ++ zeros)) 192 (omega (arith, total-append ks zeros, total-zeros (64 - length ks))));
+      (le-leb (total (ks ++ zeros)) 192 (omega (arith, total-padded ks (64 - length ks))));
   sizes = and-both _ _ (eq-eqb (length (ks ++ zeros)) 64 (omega (arith, length-append ks zeros, length-replicate {A = ℕ} (64 - length ks) 0))) refl;
   unused = λ p l k. rw (blank-unlit p l);
   places = λ p l. rw (blank-unlit p l);

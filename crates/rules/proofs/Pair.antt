@@ -91,7 +91,7 @@ split key i n (unlit ∷ u) h = split key i (suc n) u h
 split key i n (alone a ∷ u) h = omega (arith, split key i (suc n) u h)
 split key i n (shared a b ∷ u) h = omega (arith, split key i (suc n) u (h .1), within (junction (a, b)) (key a) (key b) i (h .0))
 
--- each pair adjacentPair at a node of the ring, as above
+-- each pair meets at a node of the ring, as above
 all-junctions : (N : ℕ) (u : List Slot) → All (Settled N) u
     → All (λ p. (OneOf (λ c. c .source) p × OneOf (λ c. c .destination) p) × Node N (junction p)) (sharing u)
 all-junctions N [] h = tt

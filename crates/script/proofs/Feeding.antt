@@ -5,21 +5,14 @@ use mathlib.Core.List.{List, [], _∷_, _++_, append-nil}
 use native.Mathlib.Omega.{arith}
 use native.Mathlib.Numerals.{add-one}
 use lib.ListN.{length, take, getD, set, length-append, length-set}
-use lib.Seq.{take-suc-set, take-all, take-at, length-take-le}
+use lib.Seq.{take-suc-set, take-all, take-at}
 use borrow.Author.Tests.{ne-eqb}
+use Rattle.basis.proofs.Arrays.{lent-within, lent-counted}
 use Rattle.text.proofs.Put.{put-none, put-put, put-length}
 use Rattle.print.specs.Answers.{Printed}
 use Rattle.script.specs.Desk.{Desk, Ran, KeepsRules, runLine, answerRoom, Runs, Ended}
 use Rattle.script.specs.Bytes.{Script, Session, Fed, after, texts, endText, startSession, scriptOf, Sound, Took}
 use Rattle.script.proofs.Cuts.{after-more, texts-more}
-
--- the bytes of a line that has not ended, lent
-module _ (line : List ℕ) (held : ℕ) (w : length line ≡ 257) (f : held ≤ 257) where
-  pub held-within : held ≤ length line
-  held-within = omega (arith, w)
-
-  pub held-counted : held ≡ length (take held line)
-  held-counted = sym (length-take-le held line held-within)
 
 -- before the first byte no ring was accepted
 pub start-sound : (s : Session) → s ≡ startSession → Sound s
@@ -98,13 +91,13 @@ module _ (s : Script) (chunk l0 : List ℕ) (d : Desk) (line : List ℕ) (held :
         let c : held < length line = omega (arith, q .width) in
         let z : take (held + 1) (set line held (getD chunk i 0)) ≡ take held line ++ (getD chunk i 0 ∷ []) = rw add-one (take-suc-set line held (getD chunk i 0) c) in
         let k : length (take held line ++ (getD chunk i 0 ∷ [])) ≤ 257 =
-        omega (arith, length-append (take held line) (getD chunk i 0 ∷ []), held-counted line held (q .width) (q .few)) in
+        omega (arith, length-append (take held line) (getD chunk i 0 ∷ []), lent-counted line held (lent-within line 257 held (q .width) (q .few))) in
         other (set line held (getD chunk i 0)) (held + 1) n (take-all 257 (take held line ++ (getD chunk i 0 ∷ [])) k ∙ sym z) (simp length-set (q .width)) (omega arith)
 
     -- 257 bytes are held already
     pub feed-drop : (getD chunk i 0 ≡ 10 → ⊥) → 257 ≤ held → Feeding s chunk l0 d line held l at (i + 1)
     feed-drop n f =
-        let e : length (take held line) ≡ 257 = omega (arith, q .few, held-counted line held (q .width) (q .few)) in
+        let e : length (take held line) ≡ 257 = omega (arith, q .few, lent-counted line held (lent-within line 257 held (q .width) (q .few))) in
         other line held n (take-at (take held line) (getD chunk i 0 ∷ []) 257 e) (q .width) (q .few)
 
   pub feed-all : (s0 : Session) → scriptOf s0 ≡ s → length chunk ≤ i → Took s0 chunk l0 l (record { session = record { desk = d; line = line; held = held }; wrote = at })
@@ -116,7 +109,7 @@ module _ (s : Script) (chunk l0 : List ℕ) (d : Desk) (line : List ℕ) (held :
         sound = record { held = q .few; desk = q .rules };
       }
 
-pub ruleset feeding = (feed-none, feed-few, feed-long, held-within, held-counted, feed-runs, feed-line, feed-hold, feed-drop)
+pub ruleset feeding = (feed-none, feed-few, feed-long, lent-within, lent-counted, feed-runs, feed-line, feed-hold, feed-drop)
 
 -- the end of the input
 module _ (s : Session) (l : List ℕ) where
@@ -127,6 +120,6 @@ module _ (s : Session) (l : List ℕ) where
       → Printed answerRoom l 0 (endText (scriptOf s)) l′ (r .wrote)
   unfolding texts
   end-line l′ r f w n m =
-      rw (ne-eqb (length (take (s .held) (s .line))) 0 (λ e. n (held-counted (s .line) (s .held) w (f .held) ∙ e)), ← append-nil (runLine (s .desk) (take (s .held) (s .line)) .text)) (m .text)
+      rw (ne-eqb (length (take (s .held) (s .line))) 0 (λ e. n (lent-counted (s .line) (s .held) (lent-within (s .line) 257 (s .held) w (f .held)) ∙ e)), ← append-nil (runLine (s .desk) (take (s .held) (s .line)) .text)) (m .text)
 
 pub ruleset ending = (end-none, end-line)

@@ -99,7 +99,7 @@ module _ (N : ℕ) (ks : List ℕ) (t : Channels) (c : Circuit) (rules : Rules N
         gave = λ w. omega (arith, together-weighs w (a .circuit) c);
         stayed = ((has N ks t rules a sa, inl (refl, left (a .circuit) c)), tt);
         went = tt;
-      }) (sa .low, tt) (sa .low) (inl (refl, right (a .circuit) c)) zero-le
+      }) (sa .low, tt) (inl (refl, right (a .circuit) c)) zero-le
 
   -- step 2
   pub lighted : (p : ℕ) → p < limitOf ks → at t p ≡ unlit → Good N ks t c (lighting c p)
@@ -113,7 +113,7 @@ module _ (N : ℕ) (ks : List ℕ) (t : Channels) (c : Circuit) (rules : Rules N
         gave = λ w. omega arith;
         stayed = tt;
         went = tt;
-      }) (l, tt) l (inl (refl, one c)) zero-le
+      }) (l, tt) (inl (refl, one c)) zero-le
 
   -- step 3a
   pub one-moved : (a b : Standing) (k : ℕ) → Stands (limitOf ks) t a → Stands (limitOf ks) t b → a .place ≢ b .place
@@ -128,7 +128,7 @@ module _ (N : ℕ) (ks : List ℕ) (t : Channels) (c : Circuit) (rules : Rules N
         gave = λ w. omega (arith, together-weighs w (a .circuit) (b .circuit));
         stayed = ((has N ks t rules a sa, inl (refl, left (a .circuit) (b .circuit))), tt);
         went = ((has N ks t rules b sb, inl (refl, right (a .circuit) (b .circuit)), λ e. n (sym e)), tt);
-      }) (sa .low, (sb .low, tt)) (sb .low) (inr (inl (refl, one c))) (omega arith)
+      }) (sa .low, (sb .low, tt)) (inr (inl (refl, one c))) (omega arith)
 
   -- step 3b with an old member and the new circuit
   pub two-moved : (x a : Standing) (k : ℕ) → Stands (limitOf ks) t x → Stands (limitOf ks) t a → x .place ≢ a .place
@@ -146,7 +146,7 @@ module _ (N : ℕ) (ks : List ℕ) (t : Channels) (c : Circuit) (rules : Rules N
           (has N ks t rules x sx, inr (inl (refl, one (x .circuit))), n),
           ((has N ks t rules a sa, inl (refl, left (a .circuit) c), λ e. n (sym e)), tt),
         );
-      }) (sx .low, (sa .low, tt)) (sx .low) (inl (refl, right (a .circuit) c)) (omega arith)
+      }) (sx .low, (sa .low, tt)) (inl (refl, right (a .circuit) c)) (omega arith)
 
   -- step 3b with two old members
   pub three-moved : (x a b : Standing) (k : ℕ) → Stands (limitOf ks) t x → Stands (limitOf ks) t a → Stands (limitOf ks) t b
@@ -175,4 +175,4 @@ module _ (N : ℕ) (ks : List ℕ) (t : Channels) (c : Circuit) (rules : Rules N
             ((has N ks t rules b sb, inl (refl, right (a .circuit) (b .circuit)), λ e. xb (sym e)), tt),
           ),
         );
-      }) (sx .low, (sa .low, (sb .low, tt))) (sb .low) (inr (inr (inl (refl, one c)))) (omega arith)
+      }) (sx .low, (sa .low, (sb .low, tt))) (inr (inr (inl (refl, one c)))) (omega arith)

@@ -252,7 +252,7 @@ module _ (N : ℕ) (ks : List ℕ) (t : Channels) (gone new : List Circuit) (chs
   )
 
   -- what a place gets stands there
-  pub placed : (q : ℕ) (x : Circuit) → Gets chs q x → whereIs (puts chs t) (x .number) ≡ q
+  placed : (q : ℕ) (x : Circuit) → Gets chs q x → whereIs (puts chs t) (x .number) ≡ q
   placed q x g = new-place q x (lands q x g)
 
   -- all is kept
@@ -280,14 +280,12 @@ stays-above m chs t low q h = puts-there chs t q (all-map _ _ (λ ch k e. absurd
 
 -- sound changes below the limit that give c to place p open c at p
 pub serves : (N : ℕ) (ks : List ℕ) (t : Channels) (c : Circuit) (chs : List Change) (p : ℕ) (stay : List Standing) (go : List Shift)
-    → Rules N ks t → Allowable N ks t c → Sound N t [] (c ∷ []) chs stay go → All (λ ch. ch .place < limitOf ks) chs → p < limitOf ks → Gets chs p c
+    → Rules N ks t → Allowable N ks t c → Sound N t [] (c ∷ []) chs stay go → All (λ ch. ch .place < limitOf ks) chs → Gets chs p c
     → length go ≤ 3 → Served N ks t c (puts chs t) p (shifts go)
-serves N ks t c chs p stay go rules may s low l g few =
+serves N ks t c chs p stay go rules may s low g few =
     let up = stays-above (limitOf ks) chs t low in
     record {
       kept = keeps N ks t [] (c ∷ []) chs stay go rules (numbers-more N ks t c rules may) (ports-more N ks t c rules may) s up;
       placed = placed N ks t [] (c ∷ []) chs stay go rules (numbers-more N ks t c rules may) (ports-more N ks t c rules may) s up p c g;
-      usable = l;
-      above = up;
       few = omega (arith, shift-length go);
     }

@@ -1,5 +1,5 @@
 -- What an opening or a closing keeps, from the places t to the places t′ of a ring of N nodes with the port counts ks. Assumes nothing.
-use Prim.Native.Nat.{ℕ, _+_, _≤_, _<_}
+use Prim.Native.Nat.{ℕ, _+_, _≤_}
 use mathlib.Core.Path.{_≡_}
 use mathlib.Core.Bool.{Bool, true, _&&_, not}
 use mathlib.Core.List.{List, [], _∷_}
@@ -8,9 +8,8 @@ use lib.ListN.{length}
 use Rattle.basis.specs.Choice.{bit}
 use Rattle.basis.specs.Count.{weigh, tally, All}
 use Rattle.lightpath.specs.declared.Circuit.{Circuit}
-use Rattle.channels.specs.Channels.{Channels, at, circuits, live, whereIs}
+use Rattle.channels.specs.Channels.{Channels, circuits, live, whereIs}
 use Rattle.moves.specs.declared.Move.{Move}
-use Rattle.ports.specs.Ports.{limitOf}
 use Rattle.rules.specs.Rules.{ringRules, carried}
 
 -- a circuit of the first table has moved when its place in the second is another; one that is closed has none there and has not moved
@@ -43,8 +42,5 @@ pub record Served (N : ℕ) (ks : List ℕ) (t : Channels) (c : Circuit) (t′ :
   pub kept : Kept N ks t [] (c ∷ []) t′ ms
   -- the place taken is the new circuit's in the second table
   pub placed : whereIs t′ (c .number) ≡ p
-  pub usable : p < limitOf ks
-  -- places from 2 × W up stay as they are
-  pub above : (q : ℕ) → limitOf ks ≤ q → at t′ q ≡ at t q
   -- at most three have moved
   pub few : length ms ≤ 3

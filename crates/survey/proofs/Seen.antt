@@ -29,10 +29,6 @@ use Rattle.rules.specs.Rules.{unlitFrom}
 use Rattle.steps.specs.Steps.{canJoin, joinPlace, unlitPlace}
 use Rattle.survey.specs.Survey.{Survey, surveyOf, seenWith, Takes}
 
--- a key counts each circuit once
-once : (key : Circuit → ℕ) (k : ℕ) (c : Circuit) → bit (eqb (key c) k) ≤ 1
-once key k c = bit-most (eqb (key c) k)
-
 -- a count of the places from p on, with the place under them
 count-next : (key : Circuit → ℕ) (k : ℕ) (t : Channels) (p n : ℕ) → n ≡ tally key k (circuits (drop p t)) → 0 < p → p ≤ length t
     → n + tally key k (held (at t (p - 1))) ≡ tally key k (circuits (drop (p - 1) t))
@@ -83,9 +79,9 @@ module _ (N m : ℕ) (t : Channels) (c : Circuit) (long : length t ≡ 128) (low
     -- there is room for a place more
     pub seen-room : Takes v (p - 1)
     seen-room = record {
-      numbered = omega (arith, s .numbers, weigh-most t _ p (once (λ c. c .number) (c .number)));
-      sent = omega (arith, s .sources, weigh-most t _ p (once (λ c. c .source) (c .source)));
-      received = omega (arith, s .destinations, weigh-most t _ p (once (λ c. c .destination) (c .destination)));
+      numbered = omega (arith, s .numbers, weigh-most t _ p (λ x. bit-most (eqb (x .number) (c .number))));
+      sent = omega (arith, s .sources, weigh-most t _ p (λ x. bit-most (eqb (x .source) (c .source))));
+      received = omega (arith, s .destinations, weigh-most t _ p (λ x. bit-most (eqb (x .destination) (c .destination))));
       lit = built-room p (v .lit) (s .words) h;
     }
 

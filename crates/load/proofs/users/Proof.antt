@@ -1,6 +1,8 @@
 -- `load::users` meets its contract. Assumes nothing.
+use Rattle.basis.proofs.Bools.{byte-bit}
+use Rattle.basis.proofs.Weigh.{bit-most}
 use Rattle.lightpath.specs.Circuit.{users}
-use Rattle.load.proofs.Counted.{byte-most, counts-one, counts-two}
+use Rattle.load.proofs.Counted.{counts-one, counts-two}
 use native.Mathlib.Omega.{arith}
 use borrow.Author.Needs.{needs}
 use Rattle.load.proofs.users.Statement.{statement}
@@ -34,7 +36,10 @@ cast-result-3 : tie.Need-cast-result-3
 cast-result-3 c = search needs
 
 add-result : tie.Need-add-result
-add-result c = record { fits = omega (arith, byte-most (c .before .uses2 .result), byte-most (c .uses3 .result)) }
+add-result c =
+    let a = c .before .uses2 .result in
+    let b = c .uses3 .result in
+    record { fits = omega (arith, byte-bit a, bit-most a, byte-bit b, bit-most b) }
 
 returns : tie.Need-returns
 unfolding users

@@ -1,4 +1,4 @@
--- `write_moves` meets its contract. It is proved by hand, by a walk of its code in the program logic, because a slice of structs is outside
+-- `moves::write_moves` meets its contract. It is proved by hand, by a walk of its code in the program logic, because a slice of structs is outside
 -- what the borrow checker covers: for `list: &mut [Move]` nothing of the proof is made, not even the part that only follows the code.
 -- The walk opens the borrow once. Each store stands under a test, and the code after it is walked once, at the list that the test picks
 -- (`putBelow`); what the three make together is the list of the contract (`stores-written`). Assumes nothing.

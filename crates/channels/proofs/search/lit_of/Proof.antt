@@ -1,4 +1,4 @@
--- `channels::lit_of` meets its contract. Assumes nothing.
+-- `channels::search::lit_of` meets its contract. Assumes nothing.
 use Prim.Native.Nat.{_≤_}
 use Rattle.lit_words.proofs.Words.{Built, built-start, built-room, built-next, built-end}
 use Rattle.channels.specs.Channels.{litAt}

@@ -1,4 +1,4 @@
--- `channels::where_is` meets its contract. Assumes nothing.
+-- `channels::search::where_is` meets its contract. Assumes nothing.
 use Prim.Native.Nat.{_-_, _≤_}
 use mathlib.Core.Bool.{false}
 use Rattle.basis.proofs.Scan.{Passed, scan}

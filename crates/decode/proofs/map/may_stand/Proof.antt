@@ -1,7 +1,6 @@
 -- `decode::map::may_stand` meets its contract. Assumes nothing.
 use borrow.Author.Needs.{needs}
-use Rattle.basis.proofs.Branch.{branch}
-use Rattle.decode.proofs.Records.{not-said}
+use Rattle.basis.proofs.Branch.{branch, not-said}
 use Rattle.decode.proofs.map.may_stand.Statement.{statement}
 use Rattle.decode.proofs.map.may_stand.Tie as tie
 

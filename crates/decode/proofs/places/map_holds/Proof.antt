@@ -1,8 +1,7 @@
 -- `decode::places::map_holds` meets its contract. Assumes nothing.
 use borrow.Author.Needs.{needs}
-use Rattle.basis.proofs.Branch.{branch}
+use Rattle.basis.proofs.Branch.{branch, not-said}
 use Rattle.form.specs.Reading.{mapHolds}
-use Rattle.decode.proofs.Records.{not-said}
 use Rattle.decode.proofs.places.map_holds.Statement.{statement}
 use Rattle.decode.proofs.places.map_holds.Tie as tie
 

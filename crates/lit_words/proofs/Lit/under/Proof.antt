@@ -1,7 +1,7 @@
 -- `lit_words::Lit::under` meets its contract. Assumes nothing.
 use borrow.Author.Tests.{lt-ltb, le-ltb}
+use Rattle.basis.proofs.Bools.{byte-bit}
 use Rattle.basis.proofs.Weigh.{bit-most}
-use Rattle.lit_words.proofs.Words.{byte-bit}
 use native.Mathlib.Omega.{arith}
 use borrow.Author.Needs.{needs}
 use Rattle.lit_words.proofs.Lit.under.Statement.{statement}
