@@ -15,8 +15,8 @@ use Rattle.text.specs.Number.{numberAfter, number}
 use Rattle.line.specs.Words.{wordsAfter}
 use Rattle.line.specs.Line.{field, portsAfter, parseRing, parseOpen, parseClose, parseWords, parseLine}
 use Rattle.print.specs.Answers.{piece, moveLine}
-use Rattle.script.specs.Desk.{runRing, runOpen, runClose}
 use Rattle.script.specs.Script.{linesAfter, linesText, scriptText}
+use Rattle.desk.specs.Desk.{runRing, runOpen, runClose}
 
 -- lines, each with its line end
 abbrev lines : List String → List ℕ

@@ -10,9 +10,11 @@ use borrow.Author.Tests.{ne-eqb}
 use Rattle.basis.proofs.Arrays.{lent-within, lent-counted}
 use Rattle.text.proofs.Put.{put-none, put-put, put-length}
 use Rattle.print.specs.Answers.{Printed}
-use Rattle.script.specs.Desk.{Desk, Ran, KeepsRules, runLine, answerRoom, Runs, Ended}
 use Rattle.script.specs.Bytes.{Script, Session, Fed, after, texts, endText, startSession, scriptOf, Sound, Took}
 use Rattle.script.proofs.Cuts.{after-more, texts-more}
+use Rattle.desk.specs.Desk.{KeepsRules, runLine, answerRoom, Runs, Ended}
+use Rattle.desk.specs.declared.Desk.{Desk}
+use Rattle.desk.specs.declared.Ran.{Ran}
 
 -- before the first byte no ring was accepted
 pub start-sound : (s : Session) → s ≡ startSession → Sound s

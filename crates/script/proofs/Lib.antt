@@ -1,5 +1,4 @@
--- The laws of a line run and of bytes as they come: the cut into reads does not matter.
-pub mod Running
+-- The laws of bytes as they come: the cut into reads does not matter.
 pub mod Cuts
 pub mod Feeding
 pub mod Whole

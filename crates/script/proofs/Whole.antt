@@ -9,9 +9,10 @@ use lib.ListN.{length, take}
 use lib.Seq.{take-all, length-take-le}
 use borrow.Author.Tests.{leb-true, leb-false, lt-leb, ne-eqb}
 use Rattle.line.specs.Line.{parseLine}
-use Rattle.script.specs.Desk.{Desk, emptyDesk, runLine}
 use Rattle.script.specs.Script.{lastLine, linesAfter, linesText, scriptText}
 use Rattle.script.specs.Bytes.{Script, after, texts, endText, readsText, startSession, scriptOf}
+use Rattle.desk.specs.Desk.{emptyDesk, runLine}
+use Rattle.desk.specs.declared.Desk.{Desk}
 
 -- a line of 257 bytes is as bad as a longer one
 parse-cut : (l : List ℕ) → parseLine (take 257 l) ≡ parseLine l

@@ -6,7 +6,8 @@ use lib.Dec.{eqb}
 use lib.ListN.{length, take, replicate}
 use Rattle.basis.specs.Choice.{pick}
 use Rattle.print.specs.Answers.{Printed}
-use Rattle.script.specs.Desk.{Desk, emptyDesk, KeepsRules, runLine, answerRoom}
+use Rattle.desk.specs.Desk.{emptyDesk, KeepsRules, runLine, answerRoom}
+use Rattle.desk.specs.declared.Desk.{Desk}
 pub use Rattle.script.specs.declared.Session.{Session}
 pub use Rattle.script.specs.declared.Fed.{Fed}
 

@@ -1,4 +1,3 @@
--- What a line does, what a script prints, and its bytes as they come.
-pub mod Desk
+-- What a script prints, and its bytes as they come.
 pub mod Script
 pub mod Bytes

@@ -3,7 +3,8 @@ use Prim.Native.Nat.{ℕ}
 use mathlib.Core.List.{List, [], _∷_, _++_}
 use lib.Dec.{eqb}
 use Rattle.basis.specs.Choice.{pick}
-use Rattle.script.specs.Desk.{Desk, emptyDesk, runLine}
+use Rattle.desk.specs.Desk.{emptyDesk, runLine}
+use Rattle.desk.specs.declared.Desk.{Desk}
 
 -- bytes after the last line end are a line; where there are none, there is no line
 abbrev pub lastLine : List ℕ → List (List ℕ)

@@ -3,12 +3,11 @@ ghost use mathlib.Core.Path.{_≡_};
 ghost use Prim.Native.Nat.{_*_, _≤_};
 ghost use lib.ListN.{length};
 ghost use Rattle.print.specs.Answers.{Printed};
-ghost use Rattle.script.specs.Desk.{answerRoom};
 ghost use Rattle.script.specs.Bytes.{Sound, Took, startSession, scriptOf, endText};
-use crate::Desk;
+ghost use Rattle.desk.specs.Desk.{answerRoom};
 use crate::Fed;
 use crate::Session;
-use crate::run;
+use desk::Desk;
 use ring::RingTable;
 
 // Before the first byte: no ring was accepted, and no byte is held.
@@ -39,7 +38,7 @@ pub fn feed(session: Session, chunk: &[u8], out: &mut [u8]) -> Fed
         let byte = chunk[i];
         i += 1;
         if byte == b'\n' {
-            let ran = run::run_line(desk, &line[..held], out, at);
+            let ran = desk::run_line(desk, &line[..held], out, at);
             desk = ran.desk;
             at = ran.next;
             held = 0;

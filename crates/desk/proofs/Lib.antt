@@ -1,0 +1,2 @@
+-- A line, run.
+pub mod Running

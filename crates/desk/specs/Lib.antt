@@ -1,0 +1,2 @@
+-- What a line does at the desk.
+pub mod Desk
