@@ -27,11 +27,6 @@ writtenBy t (refused r) = Refused r
 unfoldable pub writtenOf : RingTable → ℕ → Written
 writtenOf t n = writtenBy t (judged (writeCauses t n))
 
--- 01's number and values of each answer: the form's length, or the refusal's number alone
-abbrev pub writtenAnswer : Written → Answer
-writtenAnswer (Length n) = record { number = 0; values = n ∷ [] }
-writtenAnswer (Refused r) = refusal (numberOf r)
-
 -- and leaves the lent bytes after the form; on a refusal all of them
 abbrev pub bytesBy : RingTable → List ℕ → Verdict → List ℕ
 bytesBy t l granted = formOf t ++ drop (length (formOf t)) l
@@ -39,3 +34,8 @@ bytesBy t l (refused r) = l
 
 unfoldable pub bytesAfter : RingTable → List ℕ → List ℕ
 bytesAfter t l = bytesBy t l (judged (writeCauses t (length l)))
+
+-- 01's number and values of each answer: the form's length, or the refusal's number alone
+abbrev pub writtenAnswer : Written → Answer
+writtenAnswer (Length n) = record { number = 0; values = n ∷ [] }
+writtenAnswer (Refused r) = refusal (numberOf r)
