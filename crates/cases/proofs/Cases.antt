@@ -5,7 +5,7 @@ use Rattle.basis.specs.Count.{All}
 use Rattle.lightpath.specs.Circuit.{ahead}
 use Rattle.lit_words.specs.Lit.{word}
 use Rattle.moves.specs.Lent.{written}
-use Rattle.assign.specs.Assigned.{assignedOf}
+use Rattle.plan.specs.Assigned.{assignedOf}
 use Rattle.ring.specs.Making.{makeOf}
 use Rattle.ring.specs.Opening.{decideOf}
 use Rattle.ring.specs.Closing.{closeOf}

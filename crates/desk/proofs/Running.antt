@@ -19,9 +19,9 @@ use Rattle.ring.specs.declared.Answered.{Answered}
 use Rattle.ring.proofs.Making.{make-rules}
 use Rattle.ring.proofs.Served.{open-rules}
 use Rattle.ring.proofs.Closing.{close-rules}
-use Rattle.line.specs.declared.Request.{Request}
-use Rattle.line.specs.declared.Line.{Line}
-use Rattle.line.specs.Line.{parseLine}
+use Rattle.requests.specs.declared.Request.{Request}
+use Rattle.requests.specs.declared.Line.{Line}
+use Rattle.requests.specs.Line.{parseLine}
 use Rattle.print.specs.Answers.{Printed, ringLine, closeLine, openLine, moveLines}
 use Rattle.desk.specs.Desk.{Desk, Ran, deskWith, refuse, runRing, runOpen, runClose, run, runLine, Runs, Ended}
 

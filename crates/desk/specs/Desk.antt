@@ -15,9 +15,9 @@ use Rattle.ring.specs.Making.{makeOf}
 use Rattle.ring.specs.Opening.{decideOf}
 use Rattle.ring.specs.Closing.{closeOf}
 use Rattle.ring.specs.declared.RingTable.{RingTable}
-use Rattle.line.specs.declared.Request.{Request}
-use Rattle.line.specs.declared.Request.the-variants.{Ring, Open, Close, Bad}
-use Rattle.line.specs.Line.{parseLine}
+use Rattle.requests.specs.declared.Request.{Request}
+use Rattle.requests.specs.declared.Request.the-variants.{Ring, Open, Close, Bad}
+use Rattle.requests.specs.Line.{parseLine}
 use Rattle.print.specs.Answers.{Printed, lineRefused, ringLine, closeLine, openLine, moveLines}
 pub use Rattle.desk.specs.declared.Desk.{Desk}
 pub use Rattle.desk.specs.declared.Ran.{Ran}

@@ -1,7 +1,7 @@
 // The order desk: one line of a script, run and answered as bytes.
 ghost use Rattle.desk.specs.Desk.{Runs, Ended, runRing, runOpen, runClose, runLine, refuse as Desk·refuse};
 use lightpath::Circuit;
-use line::Request;
+use requests::Request;
 use refusals::Verdict;
 use ring::RingTable;
 
@@ -86,7 +86,7 @@ pub fn run_line(desk: Desk, line: &[u8], out: &mut [u8], at: usize) -> Ran
     requires { ⌜ Runs desk (now out) at ⌝ }
     ensures { λ r. ⌜ Ended (runLine desk (now (line .entry))) (now (out .entry)) at (now (out .exit)) r ⌝ }
 {
-    let parsed = line::parse_line(line);
+    let parsed = requests::parse_line(line);
     let request = parsed.request;
     let ports = parsed.ports;
     match request {

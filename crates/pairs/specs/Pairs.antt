@@ -7,7 +7,7 @@ use Rattle.lightpath.specs.Circuit.{blankCircuit}
 use Rattle.lightpath.specs.declared.Circuit.{Circuit}
 use Rattle.channels.specs.Channels.{Channels}
 use Rattle.channels.specs.declared.Standing.{Standing}
-use Rattle.gather.specs.declared.Candidates.{Candidates}
+use Rattle.circuit_lists.specs.declared.Candidates.{Candidates}
 use Rattle.steps.specs.Steps.{passedIn, foundPair, looks}
 pub use Rattle.pairs.specs.declared.Pair.{Pair}
 

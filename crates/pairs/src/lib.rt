@@ -4,13 +4,13 @@ ghost use mathlib.Core.Path.{_≡_};
 ghost use Prim.Native.Nat.{_<_, _≤_};
 ghost use lib.ListN.{length};
 ghost use Rattle.basis.specs.Search.{pairsOf};
-ghost use Rattle.gather.specs.Gathering.{Gathers};
+ghost use Rattle.circuit_lists.specs.Gathering.{Gathers};
 ghost use Rattle.steps.specs.Steps.{candidates, passed, passedIn};
 ghost use Rattle.pairs.specs.Pairs.{candidateList, firstPair, pairOf};
 use channels::Channel;
 use channels::Standing;
-use gather::Candidates;
-use gather::nonsharing_below;
+use circuit_lists::Candidates;
+use circuit_lists::nonsharing_below;
 use lightpath::Circuit;
 
 // A pair of the candidates, and the number of pairs tested, that one included.

@@ -17,7 +17,7 @@ use Rattle.lightpath.specs.declared.Circuit.{Circuit}
 use Rattle.channels.specs.Channels.{circuits, numbered, live}
 use Rattle.moves.specs.declared.Move.{Move}
 use Rattle.ports.specs.Ports.{portsAt}
-use Rattle.usage.specs.Usage.{sends, receives, freeTransmitter, freeReceiver}
+use Rattle.ports_used.specs.PortsUsed.{sends, receives, freeTransmitter, freeReceiver}
 use Rattle.rules.proofs.Allowable.{Allowable}
 use Rattle.survey.specs.declared.Survey.{Survey}
 use Rattle.refusals.specs.Refusal.{numberOf, Cause, judged}

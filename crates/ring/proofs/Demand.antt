@@ -17,7 +17,7 @@ use Rattle.moves.specs.declared.Move.{Move}
 use Rattle.moves.proofs.Written.{length-written, take-written, drop-written, written-none}
 use Rattle.ports.specs.Ports.{limitOf}
 use Rattle.rules.proofs.Rules.{Rules, rules-hold, limits-hold}
-use Rattle.assign.proofs.ByValue.{assigned-counts}
+use Rattle.plan.proofs.ByValue.{assigned-counts}
 use Rattle.refusals.specs.Refusal.{judged}
 use Rattle.refusals.specs.declared.Verdict.the-variants.{Granted as granted, Refused as refused}
 use Rattle.refusals.specs.Answer.{refusal}

@@ -19,9 +19,9 @@ use Rattle.steps.specs.Kept.{Served}
 use Rattle.steps.proofs.Step3.{ready}
 use Rattle.survey.specs.Survey.{surveyOf}
 use Rattle.survey.specs.declared.Survey.{Survey}
-use Rattle.assign.specs.Assigned.{assignedOf}
-use Rattle.assign.specs.declared.Assigned.{Assigned}
-use Rattle.assign.proofs.ByValue.{assigned-serves, assigned-looks}
+use Rattle.plan.specs.Assigned.{assignedOf}
+use Rattle.plan.specs.declared.Assigned.{Assigned}
+use Rattle.plan.proofs.ByValue.{assigned-serves, assigned-looks}
 use Rattle.refusals.specs.Refusal.{_if_, judged}
 use Rattle.refusals.specs.declared.Refusal.the-variants.{ShortList, BrokenRule}
 use Rattle.refusals.specs.declared.Verdict.{Verdict}

@@ -14,10 +14,10 @@ use Rattle.slots.specs.Slot.{held}
 use Rattle.channels.specs.Channels.{at, circuits, numbered, whereIs, circuitOf}
 use Rattle.moves.specs.declared.Move.{Move}
 use Rattle.ports.specs.Ports.{limitOf, portsAt}
-use Rattle.usage.specs.Usage.{sends, receives}
+use Rattle.ports_used.specs.PortsUsed.{sends, receives}
 use Rattle.rules.specs.Rules.{carried}
 use Rattle.steps.specs.Kept.{moved, Names}
-use Rattle.assign.specs.Assigned.{assignedOf}
+use Rattle.plan.specs.Assigned.{assignedOf}
 use Rattle.refusals.specs.Answer.{refusal}
 use Rattle.ring.specs.Table.{RingTable, meetsRules}
 use Rattle.ring.specs.Opening.{Opening, Opened}

@@ -11,11 +11,11 @@ use Rattle.moves.specs.Records.{none}
 use Rattle.moves.specs.Lent.{blanks, written}
 use Rattle.moves.specs.declared.Move.{Move}
 use Rattle.ports.specs.Ports.{limitOf}
-use Rattle.usage.specs.Usage.{freeTransmitter, freeReceiver}
+use Rattle.ports_used.specs.PortsUsed.{freeTransmitter, freeReceiver}
 use Rattle.survey.specs.Survey.{surveyOf}
 use Rattle.survey.specs.declared.Survey.{Survey}
-use Rattle.assign.specs.Assigned.{assignedOf}
-use Rattle.assign.specs.declared.Assigned.{Assigned}
+use Rattle.plan.specs.Assigned.{assignedOf}
+use Rattle.plan.specs.declared.Assigned.{Assigned}
 use Rattle.refusals.specs.Refusal.{Cause, _if_, judged}
 use Rattle.refusals.specs.declared.Refusal.{Refusal}
 use Rattle.refusals.specs.declared.Refusal.the-variants.{OffRing, SameNode, NumberLive, NoTransmitter, NoReceiver, ShortList, BrokenRule}

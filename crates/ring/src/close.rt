@@ -25,7 +25,7 @@ impl RingTable {
                 verdict: Verdict::Refused(Refusal::NotLive),
             };
         }
-        let channels = assign::without_circuit(channels, number, place);
+        let channels = plan::without_circuit(channels, number, place);
         Answered {
             table: RingTable {
                 nodes,

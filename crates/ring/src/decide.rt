@@ -6,7 +6,7 @@ ghost use Rattle.lightpath.specs.Circuit.{onRing};
 ghost use Rattle.ports.specs.Ports.{limitOf};
 ghost use Rattle.steps.specs.Steps.{Ready};
 ghost use Rattle.survey.specs.Survey.{surveyOf};
-ghost use Rattle.assign.specs.Assigned.{assignedOf};
+ghost use Rattle.plan.specs.Assigned.{assignedOf};
 ghost use Rattle.refusals.specs.Refusal.{judged};
 ghost use Rattle.ring.specs.Table.{meetsRules};
 ghost use Rattle.ring.specs.Opening.{surveyed, requestCauses, openCauses, served, refusing, decideOf};
@@ -75,7 +75,7 @@ impl RingTable {
         let nodes = self.nodes;
         let ports = self.ports;
         let channels = self.channels;
-        let assigned = assign::assign(nodes, limit, channels, circuit, seen);
+        let assigned = plan::assign(nodes, limit, channels, circuit, seen);
         let channels = assigned.channels;
         let place = assigned.place;
         let moves = assigned.moves;

@@ -14,7 +14,7 @@ use Rattle.lightpath.specs.Circuit.{joins}
 use Rattle.lightpath.specs.declared.Circuit.{Circuit}
 use Rattle.channels.specs.Channels.{Channels, circuits, numbered}
 use Rattle.ports.specs.Ports.{portsAt}
-use Rattle.usage.specs.Usage.{sends, receives}
+use Rattle.ports_used.specs.PortsUsed.{sends, receives}
 use Rattle.rules.proofs.Rules.{PortsHold, Rules}
 
 -- the circuit c joins two nodes of the ring, its number is not live, and its ports are free

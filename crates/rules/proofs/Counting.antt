@@ -24,7 +24,7 @@ use Rattle.channels.specs.Channels.{Channels, at, slots, allHeld, circuits}
 use Rattle.channels.specs.Nonsharing.{aloneFrom}
 use Rattle.channels.proofs.Places.{slots-length, slots-at}
 use Rattle.ports.specs.Ports.{limitOf}
-use Rattle.usage.specs.Usage.{sends}
+use Rattle.ports_used.specs.PortsUsed.{sends}
 use Rattle.rules.specs.Rules.{fits}
 use Rattle.rules.proofs.Rules.{PortsHold, Rules, limits-hold}
 use Rattle.rules.proofs.Fits.{couple, alone-joins}

@@ -13,7 +13,7 @@ use Rattle.basis.proofs.Bools.{and-left, and-right, and-both, fails}
 use Rattle.basis.proofs.Branch.{and-true}
 use Rattle.lightpath.specs.declared.Circuit.{Circuit}
 use Rattle.channels.specs.Channels.{Channels, at, circuits}
-use Rattle.gather.specs.Gathering.{Gathers}
+use Rattle.circuit_lists.specs.Gathering.{Gathers}
 use Rattle.ports.specs.Ports.{limitOf, limits, spareZero}
 use Rattle.rules.specs.Rules.{sized as sizedTest, unlitFrom, ends, portsHold, shares, ringRules}
 

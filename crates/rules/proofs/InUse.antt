@@ -17,7 +17,7 @@ use Rattle.basis.proofs.Weigh.{weigh-append}
 use Rattle.basis.proofs.Search.{every-at, at-every}
 use Rattle.lightpath.specs.Circuit.{blankCircuit}
 use Rattle.lightpath.specs.declared.Circuit.{Circuit}
-use Rattle.usage.specs.Usage.{sends, receives}
+use Rattle.ports_used.specs.PortsUsed.{sends, receives}
 use Rattle.rules.specs.Rules.{portsHold}
 use Rattle.rules.specs.Tallies.{Tallied, enoughAt, enough}
 use Rattle.rules.proofs.Rules.{ports-from, from-ports}

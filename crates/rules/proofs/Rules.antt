@@ -15,7 +15,7 @@ use Rattle.lightpath.specs.declared.Circuit.{Circuit}
 use Rattle.slots.specs.Slot.{isUnlit}
 use Rattle.channels.specs.Channels.{Channels, at, circuits}
 use Rattle.ports.specs.Ports.{limitOf, limits, spareZero}
-use Rattle.usage.specs.Usage.{sends, receives}
+use Rattle.ports_used.specs.PortsUsed.{sends, receives}
 use Rattle.rules.specs.Rules.{sized, ends, portsHold, shares, fits, ringRules}
 
 -- no node sends or receives more than its port count; node 1 has the first

@@ -15,7 +15,7 @@ use Rattle.slots.specs.declared.Slot.{Slot}
 use Rattle.slots.specs.declared.Slot.the-variants.{Unlit as unlit, Alone as alone, Shared as shared}
 use Rattle.channels.specs.Channels.{Channels, at, circuits}
 use Rattle.ports.specs.Ports.{limitOf, limits, spareZero}
-use Rattle.usage.specs.Usage.{sends, receives}
+use Rattle.ports_used.specs.PortsUsed.{sends, receives}
 
 -- 64 port fields and 128 places, as the types of a table say
 abbrev pub sized : List ℕ → Channels → Bool

@@ -21,7 +21,7 @@ pub fn ring_rules(nodes: u8, ports: [u8; 64], channels: [Channel; 128]) -> bool
     if !places::all_ends_hold(nodes, channels) {
         return false;
     }
-    let circuits = gather::circuits_of(channels);
+    let circuits = circuit_lists::circuits_of(channels);
     let list = circuits.list;
     let count = circuits.count;
     if !numbers::numbers_distinct(list, count) {

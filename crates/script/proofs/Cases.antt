@@ -5,15 +5,15 @@ use mathlib.Core.Path.{_≡_, refl}
 use mathlib.Core.List.{List, [], _∷_, _++_, map}
 use lib.ListN.{replicate}
 use Rattle.lightpath.specs.Circuit.{ahead}
-use Rattle.assign.specs.Assigned.{assignedOf}
+use Rattle.plan.specs.Assigned.{assignedOf}
 use Rattle.ring.specs.Making.{makeOf}
 use Rattle.ring.specs.Opening.{decideOf}
 use Rattle.ring.specs.Closing.{closeOf}
 use Rattle.text.specs.Bytes.{bytes}
 use Rattle.text.specs.Decimal.{digitsUpTo, decimal}
 use Rattle.text.specs.Number.{numberAfter, number}
-use Rattle.line.specs.Words.{wordsAfter}
-use Rattle.line.specs.Line.{field, portsAfter, parseRing, parseOpen, parseClose, parseWords, parseLine}
+use Rattle.requests.specs.Words.{wordsAfter}
+use Rattle.requests.specs.Line.{field, portsAfter, parseRing, parseOpen, parseClose, parseWords, parseLine}
 use Rattle.print.specs.Answers.{piece, moveLine}
 use Rattle.script.specs.Script.{linesAfter, linesText, scriptText}
 use Rattle.desk.specs.Desk.{runRing, runOpen, runClose}

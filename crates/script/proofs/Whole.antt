@@ -8,7 +8,7 @@ use lib.Dec.{eqb, leb}
 use lib.ListN.{length, take}
 use lib.Seq.{take-all, length-take-le}
 use borrow.Author.Tests.{leb-true, leb-false, lt-leb, ne-eqb}
-use Rattle.line.specs.Line.{parseLine}
+use Rattle.requests.specs.Line.{parseLine}
 use Rattle.script.specs.Script.{lastLine, linesAfter, linesText, scriptText}
 use Rattle.script.specs.Bytes.{Script, after, texts, endText, readsText, startSession, scriptOf}
 use Rattle.desk.specs.Desk.{emptyDesk, runLine}

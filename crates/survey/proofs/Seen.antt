@@ -24,7 +24,7 @@ use Rattle.channels.specs.Nonsharing.{standingAt}
 use Rattle.channels.specs.declared.Standing.{Standing}
 use Rattle.channels.proofs.Places.{is-unlit, none-there, weigh-from, weigh-unlit, weigh-most}
 use Rattle.channels.proofs.LitPlaces.{unlit-words}
-use Rattle.usage.specs.Usage.{sends, receives}
+use Rattle.ports_used.specs.PortsUsed.{sends, receives}
 use Rattle.rules.specs.Rules.{unlitFrom}
 use Rattle.steps.specs.Steps.{canJoin, joinPlace, unlitPlace}
 use Rattle.survey.specs.Survey.{Survey, surveyOf, seenWith, Takes}

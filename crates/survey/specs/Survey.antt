@@ -8,7 +8,7 @@ use Rattle.slots.specs.declared.Slot.{Slot}
 use Rattle.lit_words.specs.Lit.{under, RoomUnder}
 use Rattle.channels.specs.Channels.{Channels, circuits, numbered, litOf}
 use Rattle.channels.specs.Nonsharing.{standingAt}
-use Rattle.usage.specs.Usage.{sends, receives}
+use Rattle.ports_used.specs.PortsUsed.{sends, receives}
 use Rattle.steps.specs.Steps.{canJoin, joinPlace}
 pub use Rattle.survey.specs.declared.Survey.{Survey}
 

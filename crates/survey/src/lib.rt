@@ -58,9 +58,9 @@ impl Survey {
         requires { ⌜ (0 < nodes) × (place < 128) × Takes self place ⌝ }
         ensures { λ r. ⌜ r ≡ seenWith nodes circuit place slot self ⌝ }
     {
-        let numbered = self.numbered + usage::numbered_at(slot, circuit.number);
-        let sent = self.sent + usage::sent_at(slot, circuit.source);
-        let received = self.received + usage::received_at(slot, circuit.destination);
+        let numbered = self.numbered + ports_used::numbered_at(slot, circuit.number);
+        let sent = self.sent + ports_used::sent_at(slot, circuit.source);
+        let received = self.received + ports_used::received_at(slot, circuit.destination);
         let join = lower_join(nodes, circuit, place, slot, self.join);
         let lit = self.lit.under(place, slot.is_lit());
         Survey {

@@ -1,6 +1,6 @@
 -- `desk::run_line` meets its contract. Assumes nothing.
 use borrow.Author.Needs.{needs}
-use Rattle.line.proofs.Few.{lending}
+use Rattle.requests.proofs.Few.{lending}
 use Rattle.desk.proofs.Running.{line-run}
 use Rattle.desk.proofs.run_line.Statement.{statement}
 use Rattle.desk.proofs.run_line.Tie as tie

@@ -1,6 +1,6 @@
 -- `pairs::candidates_for` meets its contract. Assumes nothing.
 use Rattle.basis.proofs.Arrays.{array-length}
-use Rattle.gather.proofs.Gathering.{gathers-more}
+use Rattle.circuit_lists.proofs.Gathering.{gathers-more}
 use borrow.Author.Needs.{needs}
 use Rattle.pairs.proofs.candidates_for.Statement.{statement}
 use Rattle.pairs.proofs.candidates_for.Tie as tie

@@ -1,0 +1,50 @@
+-- `ports_used::numbered_at` meets its contract. Assumes nothing.
+use native.Mathlib.Omega.{arith}
+use borrow.Author.Needs.{needs}
+use Rattle.ports_used.proofs.numbered_at.Statement.{statement}
+use Rattle.ports_used.proofs.numbered_at.Tie as tie
+
+enum-told : tie.Need-enum-told
+enum-told c = search needs
+
+enum-known-slot : tie.Need-enum-known-slot
+enum-known-slot c = search needs
+
+one-if-requires : tie.Need-one-if-requires
+one-if-requires c κs = search needs
+
+enum-known-slot-2 : tie.Need-enum-known-slot-2
+enum-known-slot-2 c = search needs
+
+one-if-requires-2 : tie.Need-one-if-requires-2
+one-if-requires-2 c κs = search needs
+
+one-if-requires-3 : tie.Need-one-if-requires-3
+one-if-requires-3 c κs = search needs
+
+add-result : tie.Need-add-result
+add-result c = search needs
+
+returns : tie.Need-returns
+returns c = search needs
+
+returns-2 : tie.Need-returns-2
+returns-2 c = simp (c .before .before .before .slot .given .1) (omega arith)
+
+returns-3 : tie.Need-returns-3
+returns-3 c = simp (c .before .before .before .before .before .slot2 .given .1) (omega arith)
+
+pub numbered-at-spec : {M : Type 1} → statement M
+numbered-at-spec =
+    tie.close
+    (tie.spec
+    enum-told
+    enum-known-slot
+    one-if-requires
+    enum-known-slot-2
+    one-if-requires-2
+    one-if-requires-3
+    add-result
+    returns
+    returns-2
+    returns-3)

@@ -1,0 +1,2 @@
+-- Ports in use, and free ports.
+pub mod PortsUsed

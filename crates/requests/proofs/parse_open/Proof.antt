@@ -1,0 +1,116 @@
+-- `requests::parse_open` meets its contract, by the law of a field, used four times. Assumes nothing.
+use borrow.Author.Needs.{needs}
+use Rattle.requests.specs.Line.{parseOpen}
+use Rattle.requests.proofs.Fields.{requests}
+use Rattle.requests.proofs.parse_open.Statement.{statement}
+use Rattle.requests.proofs.parse_open.Tie as tie
+
+read-field-requires : tie.Need-read-field-requires
+read-field-requires c κs = search (needs, requests)
+
+enum-known-number : tie.Need-enum-known-number
+enum-known-number c = search (needs, requests)
+
+enum-told : tie.Need-enum-told
+enum-told c = search (needs, requests)
+
+plain-requires : tie.Need-plain-requires
+plain-requires c κs = search (needs, requests)
+
+returns : tie.Need-returns
+unfolding parseOpen
+returns c = search (needs, requests)
+
+read-field-requires-2 : tie.Need-read-field-requires-2
+read-field-requires-2 c κs = search (needs, requests)
+
+enum-known-source : tie.Need-enum-known-source
+enum-known-source c = search (needs, requests)
+
+enum-told-2 : tie.Need-enum-told-2
+enum-told-2 c = search (needs, requests)
+
+plain-requires-2 : tie.Need-plain-requires-2
+plain-requires-2 c κs = search (needs, requests)
+
+returns-2 : tie.Need-returns-2
+unfolding parseOpen
+returns-2 c = search (needs, requests)
+
+read-field-requires-3 : tie.Need-read-field-requires-3
+read-field-requires-3 c κs = search (needs, requests)
+
+enum-known-destination : tie.Need-enum-known-destination
+enum-known-destination c = search (needs, requests)
+
+enum-told-3 : tie.Need-enum-told-3
+enum-told-3 c = search (needs, requests)
+
+plain-requires-3 : tie.Need-plain-requires-3
+plain-requires-3 c κs = search (needs, requests)
+
+returns-3 : tie.Need-returns-3
+unfolding parseOpen
+returns-3 c = search (needs, requests)
+
+read-field-requires-4 : tie.Need-read-field-requires-4
+read-field-requires-4 c κs = search (needs, requests)
+
+enum-known-remark : tie.Need-enum-known-remark
+enum-known-remark c = search (needs, requests)
+
+enum-told-4 : tie.Need-enum-told-4
+enum-told-4 c = search (needs, requests)
+
+plain-requires-4 : tie.Need-plain-requires-4
+plain-requires-4 c κs = search (needs, requests)
+
+returns-4 : tie.Need-returns-4
+unfolding parseOpen
+returns-4 c = search (needs, requests)
+
+cast-t19 : tie.Need-cast-t19
+cast-t19 c = search (needs, requests)
+
+cast-t20 : tie.Need-cast-t20
+cast-t20 c = search (needs, requests)
+
+cast-t21 : tie.Need-cast-t21
+cast-t21 c = search (needs, requests)
+
+at-end-requires : tie.Need-at-end-requires
+at-end-requires c κs = search (needs, requests)
+
+returns-5 : tie.Need-returns-5
+unfolding parseOpen
+returns-5 c = search (needs, requests)
+
+pub parse-open-spec : {M : Type 1} → statement M
+parse-open-spec =
+    tie.close
+    (tie.spec
+    read-field-requires
+    enum-known-number
+    enum-told
+    plain-requires
+    returns
+    read-field-requires-2
+    enum-known-source
+    enum-told-2
+    plain-requires-2
+    returns-2
+    read-field-requires-3
+    enum-known-destination
+    enum-told-3
+    plain-requires-3
+    returns-3
+    read-field-requires-4
+    enum-known-remark
+    enum-told-4
+    plain-requires-4
+    returns-4
+    cast-t19
+    cast-t20
+    cast-t21
+    at-end-requires
+    returns-5)

@@ -1,2 +1,0 @@
--- Ports in use, and free ports.
-pub mod Usage
