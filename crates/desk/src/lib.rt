@@ -1,8 +1,8 @@
 // The order desk: one line of a script, run and answered as bytes.
 ghost use Rattle.desk.specs.Desk.{Runs, Ended, runRing, runOpen, runClose, runLine, refuse as Desk·refuse};
 use lightpath::Circuit;
-use requests::Request;
 use refusals::Verdict;
+use requests::Request;
 use ring::RingTable;
 
 // The order desk: the table, once a ring was accepted.
