@@ -1,7 +1,7 @@
 -- The numbers below a bound and the elements of a list: every one, and the first that passes a test. Assumes nothing.
 use Prim.Native.Nat.{ℕ, zero, suc, _≤_, _<_, suc-le-suc}
-use mathlib.Core.Path.{_≡_, refl, ap}
-use mathlib.Core.Bool.{Bool, true, false}
+use mathlib.Core.Path.{_≡_, refl, sym, ap}
+use mathlib.Core.Bool.{Bool, true, false, _&&_, and-false}
 use mathlib.Core.List.{List, [], _∷_}
 use native.Mathlib.Nat.{le-of-suc-le-suc, not-suc-le-zero}
 use native.Mathlib.Omega.{arith}
@@ -25,6 +25,16 @@ at-every (suc n) f h = and-both _ _ (h 0 (omega arith)) (at-every n (λ p. f (su
 pub every-same : (n : ℕ) (f g : ℕ → Bool) → ((p : ℕ) → p < n → f p ≡ g p) → everyBelow n f ≡ everyBelow n g
 every-same zero f g h = refl
 every-same (suc n) f g h = simp (h 0 (omega arith), every-same n (λ p. f (suc p)) (λ p. g (suc p)) (λ p l. h (suc p) (suc-le-suc l)))
+
+-- two tests pass of every number below n where each does
+pub every-and : (n : ℕ) (f g : ℕ → Bool) → everyBelow n (λ p. f p && g p) ≡ (everyBelow n f && everyBelow n g)
+every-and zero f g = refl
+every-and (suc n) f g = rw (every-and n (λ p. f (suc p)) (λ p. g (suc p))) (four (f 0) (g 0) (everyBelow n (λ p. f (suc p))) (everyBelow n (λ p. g (suc p))))
+  where
+    four : (a b c d : Bool) → (a && b && (c && d)) ≡ (a && c && (b && d))
+    four true true c d = refl
+    four true false c d = sym (and-false c)
+    four false b c d = refl
 
 -- the first that is found passes
 pub first-passes : (n : ℕ) (f : ℕ → Bool) → firstBelow n f < n → f (firstBelow n f) ≡ true

@@ -1,4 +1,4 @@
--- Choosing by a test. Assumes nothing.
+-- Choosing by a test. Assumes nothing. What every promise means by these words.
 use Prim.Native.Nat.{ℕ}
 use mathlib.Core.Bool.{Bool, true, false}
 

@@ -1,4 +1,4 @@
--- Counting, over lists and over the numbers below a bound. Assumes nothing.
+-- Counting, over lists and over the numbers below a bound. Assumes nothing. What every promise means by these words.
 use Prim.Native.Nat.{ℕ, zero, suc, _+_}
 use mathlib.Core.Bool.{Bool, true, _&&_}
 use mathlib.Core.List.{List, [], _∷_}

@@ -1,4 +1,5 @@
--- Searching: the numbers below a bound, the pairs of a list, and the first that passes a test. Assumes nothing.
+-- Searching: the numbers below a bound, the pairs of a list, and the first that passes a test. Assumes nothing. What every
+-- promise means by these words.
 use Prim.Native.Nat.{ℕ, zero, suc}
 use mathlib.Core.Bool.{Bool, true, _&&_}
 use mathlib.Core.List.{List, [], _∷_, _++_}

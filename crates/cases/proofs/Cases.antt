@@ -3,14 +3,14 @@ use mathlib.Core.Path.{_≡_, refl}
 use mathlib.Core.List.{List, [], _∷_, map}
 use Rattle.basis.specs.Count.{All}
 use Rattle.lightpath.specs.Circuit.{ahead}
-use Rattle.lit_words.specs.Lit.{word}
+use Rattle.lit_words.specs.Lit.{word, noneLitFrom}
 use Rattle.moves.specs.Lent.{written}
-use Rattle.plan.specs.Assigned.{assignedOf}
+use Rattle.steps.specs.Steps.{planOf}
 use Rattle.ring.specs.Making.{makeOf}
 use Rattle.ring.specs.Opening.{decideOf}
 use Rattle.ring.specs.Closing.{closeOf}
-use Rattle.form.specs.Bytes.{twoBytes, fourBytes}
-use Rattle.form.specs.Form.{mapBytes, fieldMap, remarkBytes, circuitBytes, recordBytes, recordsBytes, formOf}
+use Rattle.form.specs.Bytes.{highFirst}
+use Rattle.form.specs.Form.{mapBytes, fieldMap, optionalBytes, circuitBytes, recordBytes, recordsBytes, formOf}
 use Rattle.cases.specs.Case.{Case, answerTo, Holds}
 use Rattle.cases.specs.Table.{cases}
 
@@ -21,7 +21,7 @@ each (c ∷ cs) e = ((cc), each cs (cc))
 
 -- the answers to the table's, computed
 computed : map (λ c. answerTo (c .asked)) cases ≡ map (λ c. c .expected) cases
-unfolding ahead word makeOf decideOf closeOf assignedOf written formOf mapBytes recordsBytes recordBytes fieldMap circuitBytes fourBytes twoBytes remarkBytes
+unfolding ahead word noneLitFrom makeOf decideOf closeOf planOf written formOf mapBytes recordsBytes recordBytes fieldMap circuitBytes highFirst optionalBytes
 computed = refl
 
 -- so each of its cases holds

@@ -1,4 +1,5 @@
 -- Cases by kind: what is asked, and what the definitions answer. Assumes nothing.
+-- What is asked and answered in 01's cases, for a reader to check beside 01.
 use Prim.Native.Nat.{ℕ, _+_}
 use mathlib.Core.Path.{_≡_}
 use mathlib.Core.List.{List, [], _∷_, _++_}

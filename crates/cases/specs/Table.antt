@@ -1,4 +1,5 @@
 -- The cases that document 01 marks P, and its script request by request, in one table. Assumes nothing.
+-- 01's cases, for a reader to check beside 01.
 use Prim.Native.Nat.{ℕ, _-_}
 use mathlib.Core.List.{List, [], _∷_, _++_, map}
 use lib.ListN.{length, replicate}

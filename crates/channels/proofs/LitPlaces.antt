@@ -12,7 +12,7 @@ use Rattle.slots.specs.Slot.{isLit, isUnlit}
 use Rattle.slots.specs.declared.Slot.{Slot}
 use Rattle.slots.specs.declared.Slot.the-variants.{Unlit as unlit, Alone as alone, Shared as shared}
 use Rattle.lit_words.specs.Lit.{litBit, onesOf}
-use Rattle.lit_words.proofs.Words.{words-say}
+use Rattle.lit_words.proofs.LitBits.{words-say}
 use Rattle.channels.specs.Channels.{Channels, at, litPlaces, litAt, litOf}
 
 -- a place is unlit when it is not lit

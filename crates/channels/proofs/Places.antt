@@ -1,13 +1,13 @@
 -- The table place by place: its weight is the sum of its places' weights, and a change of one place changes only that. Assumes nothing.
 use Prim.Native.Nat.{ℕ, zero, suc, _+_, _-_, _*_, _≤_, _<_, zero-le, suc-le-suc}
-use mathlib.Core.Path.{_≡_, refl, ap, _∙_}
+use mathlib.Core.Path.{_≡_, refl, ap}
 use mathlib.Core.Bool.{true}
 use mathlib.Core.Logic.{_≢_}
 use mathlib.Core.List.{List, [], _∷_}
 use native.Mathlib.Nat.{le-of-suc-le-suc, not-suc-le-zero}
 use native.Mathlib.Omega.{arith}
 use lib.ListN.{length, getD, set, drop, length-set, length-drop, List·getD-eq-default, take}
-use lib.Seq.{drop-cons, getD-drop, getD-set-same, getD-set-other}
+use lib.Seq.{drop-cons, getD-set-same, getD-set-other}
 use Rattle.basis.specs.Count.{weigh}
 use Rattle.basis.proofs.Weigh.{weigh-append, weigh-set}
 use Rattle.lightpath.specs.declared.Circuit.{Circuit}
@@ -96,14 +96,6 @@ module _ (t : Channels) (w : Circuit → ℕ) where
   -- the places from p on weigh what p does and those above it
   pub weigh-from : (p : ℕ) → p < length t → weigh w (circuits (drop p t)) ≡ weigh w (held (at t p)) + weigh w (circuits (drop (suc p) t))
   weigh-from p l = rw (drop-cons t p unlitChannel l) (weigh-append w (held (at t p)) (circuits (drop (suc p) t)))
-
-  -- they weigh nothing where all are unlit
-  pub weigh-unlit : (p : ℕ) → ((q : ℕ) → p ≤ q → q < length t → at t q ≡ unlit) → weigh w (circuits (drop p t)) ≡ 0
-  weigh-unlit p h = weigh-none w (slots (drop p t)) (λ q l. rw (slots-at (drop p t) q) (nothing q (omega (arith, slots-length (drop p t), length-drop p t))))
-    where
-      nothing : (q : ℕ) → q < length t - p → weigh w (held (at (drop p t) q)) ≡ 0
-      nothing q l =
-          ap (λ (s : Slot). weigh w (held s)) (ap (λ ch. ch .slot) (getD-drop p t q unlitChannel) ∙ h (p + q) (omega arith) (omega arith))
 
   -- and at most twice their number where a circuit weighs at most 1
   pub weigh-most : (p : ℕ) → ((c : Circuit) → w c ≤ 1) → weigh w (circuits (drop p t)) ≤ 2 * (length t - p)

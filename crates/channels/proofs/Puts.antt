@@ -14,7 +14,7 @@ use Rattle.slots.specs.Slot.{held}
 use Rattle.slots.specs.declared.Slot.{Slot}
 use Rattle.slots.specs.declared.Slot.the-variants.{Unlit as unlit}
 use Rattle.channels.specs.Channels.{Channels, at, slots, circuits}
-use Rattle.channels.specs.Change.{Change, Changes, _gets_, put, puts, oneChange, twoChanges, threeChanges, inOrder, Placed}
+use Rattle.channels.specs.Change.{Change, _gets_, put, puts, oneChange, twoChanges, inOrder}
 use Rattle.channels.proofs.Places.{weigh-slots, weigh-place, weigh-nowhere, put-length, put-here, put-there, put-sum}
 
 -- no place is changed twice
@@ -164,15 +164,3 @@ puts-one a t = again a (put a t) ∙ again a t
 
 pub puts-two : (a b : Change) (t : Channels) → puts (inOrder (twoChanges a b)) t ≡ puts (a ∷ b ∷ []) t
 puts-two a b t = again b (put a t)
-
--- they are of places that there are where each is
-pub placed-one : (a : Change) (r : Changes) → r ≡ oneChange a → a .place < 128 → Placed r
-placed-one a r e h = rw e (record { first = h; second = h; third = h })
-
-pub placed-two : (a b : Change) (r : Changes) → r ≡ twoChanges a b → a .place < 128 → b .place < 128 → Placed r
-placed-two a b r e h k = rw e (record { first = h; second = k; third = k })
-
-pub placed-three : (a b c : Change) (r : Changes) → r ≡ threeChanges a b c → a .place < 128 → b .place < 128 → c .place < 128 → Placed r
-placed-three a b c r e h k l = rw e (record { first = h; second = k; third = l })
-
-pub ruleset placed = (placed-one, placed-two, placed-three)

@@ -1,7 +1,9 @@
 -- What an opening or a closing does to a table: places get new contents, one after the other. Assumes nothing.
+-- What the calls of the ring table promise; changes by value serve proofs inside only.
 use Prim.Native.Nat.{ℕ, _<_}
 use mathlib.Core.List.{List, [], _∷_}
 use lib.ListN.{set}
+use Rattle.limits.specs.Limits.{placeCount}
 use Rattle.slots.specs.declared.Slot.{Slot}
 use Rattle.channels.specs.Channels.{Channels}
 pub use Rattle.channels.specs.declared.Change.{Change}
@@ -37,6 +39,6 @@ inOrder chs = chs .first ∷ chs .second ∷ chs .third ∷ []
 
 -- each is of a place that there is
 pub record Placed (chs : Changes) : Type 0 where
-  pub first : chs .first .place < 128
-  pub second : chs .second .place < 128
-  pub third : chs .third .place < 128
+  pub first : chs .first .place < placeCount
+  pub second : chs .second .place < placeCount
+  pub third : chs .third .place < placeCount

@@ -1,4 +1,4 @@
--- 01, "The ring": a table has 128 directed wavelength places, lit or not. Assumes nothing.
+-- 01, "The ring": a table has 128 directed wavelength places, lit or not. Assumes nothing. What the calls of the ring table promise.
 use Prim.Native.Nat.{ℕ}
 use mathlib.Core.Bool.{Bool}
 use mathlib.Core.List.{List, [], _∷_, _++_}
@@ -7,6 +7,7 @@ use lib.ListN.{getD, replicate}
 use Rattle.basis.specs.Choice.{bit}
 use Rattle.basis.specs.Count.{weigh, tally}
 use Rattle.basis.specs.Search.{firstBelow}
+use Rattle.limits.specs.Limits.{placeCount}
 use Rattle.lightpath.specs.declared.Circuit.{Circuit}
 use Rattle.slots.specs.Slot.{held, isLit, named, holds}
 use Rattle.slots.specs.declared.Slot.{Slot}
@@ -25,7 +26,7 @@ unlitChannel = record { slot = unlit }
 
 -- 128 blank places
 abbrev pub unlitChannels : Channels
-unlitChannels = replicate 128 unlitChannel
+unlitChannels = replicate placeCount unlitChannel
 
 -- the content of place p; a place that there is not is unlit
 abbrev pub at : Channels → ℕ → Slot
@@ -55,7 +56,7 @@ live t n = ltb 0 (numbered n (circuits t))
 
 -- the place of the circuit with number n, or 128 where none has it
 abbrev pub whereIs : Channels → ℕ → ℕ
-whereIs t n = firstBelow 128 (λ p. holds n (at t p))
+whereIs t n = firstBelow placeCount (λ p. holds n (at t p))
 
 -- the live circuit of number n
 abbrev pub circuitOf : Channels → ℕ → Circuit

@@ -1,4 +1,4 @@
--- 01, "Opening a circuit": the nonsharing circuits by rising place. Assumes nothing.
+-- 01, "Opening a circuit": the nonsharing circuits by rising place. Assumes nothing. What `RingTable::open`, `decide` and `decide_valid` promise.
 use Prim.Native.Nat.{ℕ, suc}
 use mathlib.Core.Bool.{Bool}
 use mathlib.Core.List.{List, [], _∷_}

@@ -3,6 +3,7 @@
 ghost use mathlib.Core.Path.{_≡_};
 ghost use Rattle.channels.specs.Channels.{unlitChannels, at};
 use lightpath::Circuit;
+use limits::PLACE_COUNT;
 use slots::Slot;
 
 mod search;
@@ -11,6 +12,7 @@ mod updates;
 pub use search::lit_of;
 pub use search::where_is;
 pub use updates::changed;
+pub use updates::without_circuit;
 
 // A place of the table. (A field can be an array of structs that hold an enum, and not of enums.)
 pub struct Channel {
@@ -37,17 +39,17 @@ pub struct Standing {
 }
 
 // 128 blank places.
-pub fn unlit_channels() -> [Channel; 128]
+pub fn unlit_channels() -> [Channel; PLACE_COUNT]
     ensures { λ r. ⌜ r ≡ unlitChannels ⌝ }
 {
-    [Channel { slot: Slot::Unlit }; 128]
+    [Channel { slot: Slot::Unlit }; PLACE_COUNT]
 }
 
 // The content of a place; a place that there is not is unlit.
-pub fn slot_at(channels: [Channel; 128], place: usize) -> Slot
+pub fn slot_at(channels: [Channel; PLACE_COUNT], place: usize) -> Slot
     ensures { λ r. ⌜ r ≡ at channels place ⌝ }
 {
-    if 128 <= place {
+    if PLACE_COUNT <= place {
         return Slot::Unlit;
     }
     let channel = channels[place];

@@ -1,10 +1,15 @@
-// Up to three changes of places by value, and the places after them.
+// Up to three changes of places by value, and the places after them; and the places after a closing.
 
 ghost use mathlib.Core.Path.{_≡_};
+ghost use Prim.Native.Nat.{_<_};
+ghost use Rattle.limits.specs.Limits.{placeCount};
+ghost use Rattle.channels.specs.Channels.{whereIs};
+ghost use Rattle.channels.specs.Closing.{closed};
 ghost use Rattle.channels.specs.Change.{puts, inOrder, Placed, oneChange, twoChanges, threeChanges};
 use crate::Change;
 use crate::Changes;
 use crate::Channel;
+use limits::PLACE_COUNT;
 
 impl Changes {
     // One change.
@@ -42,7 +47,7 @@ impl Changes {
 }
 
 // The places after the changes.
-pub fn changed(channels: [Channel; 128], changes: Changes) -> [Channel; 128]
+pub fn changed(channels: [Channel; PLACE_COUNT], changes: Changes) -> [Channel; PLACE_COUNT]
     requires { ⌜ Placed changes ⌝ }
     ensures { λ r. ⌜ r ≡ puts (inOrder changes) channels ⌝ }
 {
@@ -59,5 +64,23 @@ pub fn changed(channels: [Channel; 128], changes: Changes) -> [Channel; 128]
     let c = third.place;
     let slot = third.slot;
     after[c] = Channel { slot };
+    after
+}
+
+// The places without the circuit of a number, which stands at a place; none moves.
+pub fn without_circuit(
+    channels: [Channel; PLACE_COUNT],
+    number: u32,
+    place: usize,
+) -> [Channel; PLACE_COUNT]
+    requires { ⌜ (place ≡ whereIs channels number) × (place < placeCount) ⌝ }
+    ensures { λ r. ⌜ r ≡ closed channels number ⌝ }
+{
+    let mut after = channels;
+    let channel = after[place];
+    let slot = channel.slot;
+    after[place] = Channel {
+        slot: slot.without(number),
+    };
     after
 }

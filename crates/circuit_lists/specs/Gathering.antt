@@ -1,4 +1,4 @@
--- What it is to gather a list into an array. Assumes nothing.
+-- What it is to gather a list into an array. Assumes nothing. Serves proofs inside only.
 use Prim.Native.Nat.{ℕ, _≤_}
 use mathlib.Core.Path.{_≡_}
 use mathlib.Core.List.{List}

@@ -1,41 +1,38 @@
 // The circuits of a table gathered into an array by rising place: all of them, or the nonsharing ones below a limit.
 
 ghost use Prim.Native.Nat.{_≤_};
+ghost use Rattle.limits.specs.Limits.{placeCount, circuitRoom};
 ghost use Rattle.channels.specs.Channels.{circuits};
 ghost use Rattle.channels.specs.Nonsharing.{nonsharing};
 ghost use Rattle.circuit_lists.specs.Gathering.{Gathers};
 use channels::Channel;
 use channels::Standing;
+use lightpath::BLANK_CIRCUIT;
 use lightpath::Circuit;
+use limits::CIRCUIT_ROOM;
+use limits::PLACE_COUNT;
 use slots::Slot;
 
 // Circuits by rising place, the first count of the list.
 pub struct Circuits {
-    pub list: [Circuit; 256],
+    pub list: [Circuit; CIRCUIT_ROOM],
     pub count: usize,
 }
 
 // Nonsharing circuits by rising place, the first count of the list, which has room for one more than there are places.
 pub struct Candidates {
-    pub list: [Standing; 129],
+    pub list: [Standing; PLACE_COUNT + 1],
     pub count: usize,
 }
 
-const BLANK: Circuit = Circuit {
-    number: 0,
-    source: 0,
-    destination: 0,
-    remark: 0,
-};
-
 // Every circuit of the table.
-pub fn circuits_of(channels: [Channel; 128]) -> Circuits
-    ensures { λ r. ⌜ Gathers 256 (r .list) (r .count) (circuits channels) ⌝ }
+pub fn circuits_of(channels: [Channel; PLACE_COUNT]) -> Circuits
+    ensures { λ r. ⌜ Gathers circuitRoom (r .list) (r .count) (circuits channels) ⌝ }
 {
-    let mut list = [BLANK; 256];
+    let mut list = [BLANK_CIRCUIT; CIRCUIT_ROOM];
     let mut count: usize = 0;
     let mut p: usize = 0;
-    while p < 128 {
+    while p < PLACE_COUNT {
         let channel = channels[p];
         let slot = channel.slot;
         p += 1;
@@ -56,14 +53,14 @@ pub fn circuits_of(channels: [Channel; 128]) -> Circuits
 }
 
 // The nonsharing circuits of the places below a limit.
-pub fn nonsharing_below(channels: [Channel; 128], limit: usize) -> Candidates
-    requires { ⌜ limit ≤ 128 ⌝ }
-    ensures { λ r. ⌜ Gathers 128 (r .list) (r .count) (nonsharing limit channels) ⌝ }
+pub fn nonsharing_below(channels: [Channel; PLACE_COUNT], limit: usize) -> Candidates
+    requires { ⌜ limit ≤ placeCount ⌝ }
+    ensures { λ r. ⌜ Gathers placeCount (r .list) (r .count) (nonsharing limit channels) ⌝ }
 {
     let mut list = [Standing {
         place: 0,
-        circuit: BLANK,
-    }; 129];
+        circuit: BLANK_CIRCUIT,
+    }; PLACE_COUNT + 1];
     let mut count: usize = 0;
     let mut p: usize = 0;
     while p < limit {

@@ -15,7 +15,8 @@ use Rattle.form.specs.Reader.{Field, got, fault, Reader, andThen}
 use Rattle.form.specs.Reading.{readPlace, readRecords}
 use Rattle.decode.specs.declared.places.SlotRead.{SlotRead}
 use Rattle.decode.specs.declared.places.SlotRead.the-variants.{Got, Refused}
-use Rattle.decode.specs.Found.{SlotAt}
+use Rattle.decode.specs.declared.places.RecordsRead.{RecordsRead}
+use Rattle.decode.specs.Found.{SlotAt, noRecords, RecordsAt}
 
 -- the bit of a place, by another test
 pub place-same : (b s : List ℕ) (l m : Bool) (r : SlotRead) → l ≡ m → SlotAt b r (readPlace l s) → SlotAt b r (readPlace m s)
@@ -70,7 +71,11 @@ module _ (lit : ℕ → Bool) (b : List ℕ) (start : ℕ) where
     unfolding after readRecords
     listing-all h l = let e : p ≡ 128 = omega arith in q .is ∙ rw (e, take-all 128 chs (omega (arith, q .long)), append-nil)
 
-pub ruleset listing = (listing-none, listing-next, listing-fault, listing-all)
+-- a refusal is all that is read
+pub records-refused : (b : List ℕ) (f : Field Channels) (n : Refusal) (r : RecordsRead) → r ≡ noRecords n → f ≡ fault n → RecordsAt b r f
+records-refused b f n r e h = rw e (h, refl)
+
+pub ruleset listing = (listing-none, listing-next, listing-fault, listing-all, records-refused)
 
 -- readers that agree after a field
 then-same : {A B : Type 0} (f : Field A) (g h : A → Reader B) → ((x : A) (s : List ℕ) → g x s ≡ h x s) → andThen f g ≡ andThen f h

@@ -1,9 +1,10 @@
--- What the reader has of a form after its ports, and after its map. Assumes nothing.
+-- What the reader has of a form after its ports, and after its map. Assumes nothing. Serves proofs inside only.
 use Prim.Native.Nat.{ℕ, _+_, _≤_}
 use mathlib.Core.Path.{_≡_}
 use mathlib.Core.List.{List}
 use lib.ListN.{length, drop}
 use Rattle.basis.specs.Choice.{pick}
+use Rattle.limits.specs.Limits.{placeCount}
 use Rattle.lit_words.specs.declared.Lit.{Lit}
 use Rattle.lit_words.specs.Lit.{litBit}
 use Rattle.refusals.specs.declared.Refusal.the-variants.{BrokenForm}
@@ -11,6 +12,7 @@ use Rattle.refusals.specs.declared.Verdict.the-variants.{Granted as granted, Re
 use Rattle.ring.specs.Table.{meetsRules, blankTable, freshTable}
 use Rattle.ring.specs.declared.RingTable.{RingTable}
 use Rattle.ring.specs.declared.Answered.{Answered}
+use Rattle.form.specs.Form.{mapWidth}
 use Rattle.form.specs.Reader.{Field, got, fault, andThen, _>>_, end}
 use Rattle.form.specs.Reading.{readPorts, readRecords, checked, readTable, answeredBy}
 
@@ -33,6 +35,6 @@ pub record Ported (b : List ℕ) (t : RingTable) : Type 0 where
 -- and then a map with the words `lit`, no bit of it at 2 × W or above
 pub record Mapped (b : List ℕ) (t : RingTable) (lit : Lit) : Type 0 where
   pub ports : List ℕ
-  pub read : readTable b ≡ andThen (readRecords (litBit lit) 128 0 (drop (17 + t .nodes) b)) (λ chs. do end; checked ports chs)
-  pub within : 17 + t .nodes ≤ length b
+  pub read : readTable b ≡ andThen (readRecords (litBit lit) placeCount 0 (drop (1 + mapWidth + t .nodes) b)) (λ chs. do end; checked ports chs)
+  pub within : 1 + mapWidth + t .nodes ≤ length b
   pub table : t ≡ freshTable (length ports) ports

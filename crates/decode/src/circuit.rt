@@ -1,18 +1,18 @@
 // Reading a circuit at a position of the form.
 
-ghost use mathlib.Core.Path.{_≡_};
-ghost use mathlib.Core.List.{[], _∷_};
-ghost use Prim.Native.Nat.{_+_, _*_, _≤_, _<_};
+ghost use Prim.Native.Nat.{_≤_};
 ghost use lib.ListN.{length, drop};
-ghost use Rattle.form.specs.Bytes.{numberIn};
-ghost use Rattle.form.specs.Reading.{readRemark, readCircuit};
-ghost use Rattle.decode.specs.Found.{RemarkAt, CircuitAt};
+ghost use Rattle.form.specs.Reading.{readOptional, readCircuit};
+ghost use Rattle.decode.specs.Found.{OptionalAt, CircuitAt};
+use form::NUMBER_WIDTH;
+use form::PLAIN_WIDTH;
+use form::REMARK_WIDTH;
 use lightpath::Circuit;
 use refusals::Refusal;
 
-// A remark and the position after it, or a refusal.
-pub enum RemarkRead {
-    Got(u16, usize),
+// An optional field and the position after it, or a refusal.
+pub enum OptionalRead {
+    Got(u32, usize),
     Refused(Refusal),
 }
 
@@ -22,36 +22,23 @@ pub enum CircuitRead {
     Refused(Refusal),
 }
 
-// A number of 16 bits by its bytes, the highest first.
-fn number_of_two(a: u8, b: u8) -> u16
-    ensures { λ r. ⌜ r ≡ numberIn (a ∷ b ∷ []) ⌝ }
+// Reads an optional field of so many bytes, if its bit of the field map stands.
+fn read_optional(form: &[u8], at: usize, width: usize, stands: bool) -> OptionalRead
+    requires { ⌜ (at ≤ length (now form)) × (width ≤ 4) ⌝ }
+    ensures { λ r. ⌜ OptionalAt width (now (form .entry)) r (readOptional width stands (drop at (now (form .entry)))) ⌝ }
 {
-    a as u16 * 256 + b as u16
-}
-
-// A number of 32 bits by its bytes, the highest first.
-fn number_of_four(a: u8, b: u8, c: u8, d: u8) -> u32
-    ensures { λ r. ⌜ r ≡ numberIn (a ∷ b ∷ c ∷ d ∷ []) ⌝ }
-{
-    ((a as u32 * 256 + b as u32) * 256 + c as u32) * 256 + d as u32
-}
-
-// Reads a remark, if the field map says that there is one.
-fn read_remark(form: &[u8], at: usize, remarked: bool) -> RemarkRead
-    requires { ⌜ at ≤ length (now form) ⌝ }
-    ensures { λ r. ⌜ RemarkAt (now (form .entry)) r (readRemark remarked (drop at (now (form .entry)))) ⌝ }
-{
-    if !remarked {
-        return RemarkRead::Got(0, at);
+    if !stands {
+        return OptionalRead::Got(0, at);
     }
-    if form.len() - at < 2 {
-        return RemarkRead::Refused(Refusal::CutShort);
+    if form.len() - at < width {
+        return OptionalRead::Refused(Refusal::CutShort);
     }
-    let remark = number_of_two(form[at], form[at + 1]);
-    if remark == 0 {
-        return RemarkRead::Refused(Refusal::BadField);
+    let next = at + width;
+    let value = crate::number::number_of(&form[at..next]);
+    if value == 0 {
+        return OptionalRead::Refused(Refusal::BadField);
     }
-    RemarkRead::Got(remark, at + 2)
+    OptionalRead::Got(value, next)
 }
 
 // Reads a circuit.
@@ -59,22 +46,26 @@ pub fn read_circuit(form: &[u8], at: usize, remarked: bool) -> CircuitRead
     requires { ⌜ at ≤ length (now form) ⌝ }
     ensures { λ r. ⌜ CircuitAt (now (form .entry)) r (readCircuit remarked (drop at (now (form .entry)))) ⌝ }
 {
-    if form.len() - at < 6 {
+    if form.len() - at < PLAIN_WIDTH {
         return CircuitRead::Refused(Refusal::CutShort);
     }
-    let number = number_of_four(form[at], form[at + 1], form[at + 2], form[at + 3]);
-    let source = form[at + 4];
-    let destination = form[at + 5];
-    match read_remark(form, at + 6, remarked) {
-        RemarkRead::Refused(refusal) => CircuitRead::Refused(refusal),
-        RemarkRead::Got(remark, next) => CircuitRead::Got(
-            Circuit {
-                number,
-                source,
-                destination,
-                remark,
-            },
-            next,
-        ),
+    let ends = at + NUMBER_WIDTH;
+    let number = crate::number::number_of(&form[at..ends]);
+    let source = form[ends];
+    let destination = form[ends + 1];
+    match read_optional(form, ends + 2, REMARK_WIDTH, remarked) {
+        OptionalRead::Refused(refusal) => CircuitRead::Refused(refusal),
+        OptionalRead::Got(remark, next) => {
+            let remark = remark as u16;
+            CircuitRead::Got(
+                Circuit {
+                    number,
+                    source,
+                    destination,
+                    remark,
+                },
+                next,
+            )
+        }
     }
 }

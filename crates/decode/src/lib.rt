@@ -2,16 +2,22 @@
 
 mod circuit;
 mod map;
+mod number;
 mod places;
 
 ghost use mathlib.Core.Path.{_≡_};
 ghost use Prim.Native.Nat.{_+_, _<_};
+ghost use Rattle.refusals.specs.Answer.{verdictAnswer};
 ghost use Rattle.ring.specs.Table.{withChannels};
 ghost use Rattle.form.specs.Form.{formOf};
 ghost use Rattle.form.specs.Reader.{fault};
-ghost use Rattle.form.specs.Reading.{answeredBy, readPorts, readOf};
+ghost use Rattle.form.specs.Reading.{answeredBy, readPorts, readOf, readAnswer};
 ghost use Rattle.decode.specs.Begun.{ringBy, judgedTable, Ported, Mapped};
 use channels::Channel;
+use form::MAP_WIDTH;
+use limits::LEAST_NODES;
+use limits::MOST_NODES;
+use limits::PLACE_COUNT;
 use lit_words::Lit;
 use refusals::Refusal;
 use refusals::Verdict;
@@ -36,10 +42,10 @@ fn read_ring(form: &[u8]) -> Answered
         return refused(Refusal::CutShort);
     }
     let nodes = form[0];
-    if nodes < 3 {
+    if nodes < LEAST_NODES {
         return refused(Refusal::NodeCount);
     }
-    if 64 < nodes {
+    if MOST_NODES < nodes {
         return refused(Refusal::NodeCount);
     }
     let end = 1 + nodes as usize;
@@ -50,7 +56,7 @@ fn read_ring(form: &[u8]) -> Answered
 }
 
 // Judges the table that was read by the ring rules.
-fn checked(ring: RingTable, channels: [Channel; 128]) -> Answered
+fn checked(ring: RingTable, channels: [Channel; PLACE_COUNT]) -> Answered
     ensures { λ r. ⌜ r ≡ judgedTable (withChannels ring channels) ⌝ }
 {
     let nodes = ring.nodes;
@@ -74,7 +80,7 @@ fn read_channels(form: &[u8], ring: RingTable, lit: Lit) -> Answered
     requires { ⌜ Mapped (now form) ring lit ⌝ }
     ensures { λ r. ⌜ r ≡ readOf (now (form .entry)) ⌝ }
 {
-    let start = 17 + ring.nodes as usize;
+    let start = 1 + MAP_WIDTH + ring.nodes as usize;
     let records = places::read_records(form, start, lit);
     let verdict = records.verdict;
     match verdict {
@@ -96,12 +102,12 @@ fn read_places(form: &[u8], ring: RingTable) -> Answered
     ensures { λ r. ⌜ r ≡ readOf (now (form .entry)) ⌝ }
 {
     let start = 1 + ring.nodes as usize;
-    if form.len() - start < 16 {
+    if form.len() - start < MAP_WIDTH {
         return refused(Refusal::CutShort);
     }
     let lit = map::read_map(form, start);
     let ports = ring.ports;
-    if !map::none_lit_from(lit, ports::place_limit(ports)) {
+    if !lit.none_lit_from(ports::place_limit(ports)) {
         return refused(Refusal::BadField);
     }
     read_channels(form, ring, lit)
@@ -110,6 +116,7 @@ fn read_places(form: &[u8], ring: RingTable) -> Answered
 // Reads a form: the table, or the blank one and the refusal. What is granted is a table whose form is the bytes read.
 pub fn read(form: &[u8]) -> Answered
     ensures answer { λ r. ⌜ r ≡ readOf (now (form .entry)) ⌝ }
+    ensures numbers { λ r. ⌜ verdictAnswer (r .verdict) ≡ readAnswer (now (form .entry)) ⌝ }
     ensures back { λ r. ⌜ (r .verdict ≡ Verdict.Granted → formOf (r .table) ≡ now (form .entry)) ⌝ }
 {
     let ring = read_ring(form);

@@ -3,12 +3,14 @@
 ghost use mathlib.Core.Path.{_≡_};
 ghost use Prim.Native.Nat.{_+_, _≤_, _<_};
 ghost use lib.ListN.{length, drop};
+ghost use Rattle.limits.specs.Limits.{placeCount};
 ghost use Rattle.lit_words.specs.Lit.{bitOf, litBit};
 ghost use Rattle.form.specs.Reading.{mapHolds, readSecond, readRecord, readPlace, readRecords};
-ghost use Rattle.decode.specs.Found.{SlotAt, RecordsAt};
+ghost use Rattle.decode.specs.Found.{SlotAt, noRecords, RecordsAt};
 use crate::circuit::CircuitRead;
 use channels::Channel;
 use lightpath::Circuit;
+use limits::PLACE_COUNT;
 use lit_words::Lit;
 use refusals::Refusal;
 use refusals::Verdict;
@@ -20,10 +22,10 @@ pub enum SlotRead {
     Refused(Refusal),
 }
 
-// What all places hold and the position after the last record, if the verdict is no refusal.
+// What all places hold and the position after the last record, or a refusal with no place lit.
 pub struct RecordsRead {
     pub verdict: Verdict,
-    pub channels: [Channel; 128],
+    pub channels: [Channel; PLACE_COUNT],
     pub at: usize,
 }
 
@@ -99,27 +101,34 @@ fn read_place(form: &[u8], at: usize, lit: bool) -> SlotRead
 
 // Reads what a place holds, by the words of the map.
 fn read_content(form: &[u8], at: usize, lit: Lit, place: usize) -> SlotRead
-    requires { ⌜ (at ≤ length (now form)) × (place < 128) ⌝ }
+    requires { ⌜ (at ≤ length (now form)) × (place < placeCount) ⌝ }
     ensures { λ r. ⌜ SlotAt (now (form .entry)) r (readPlace (litBit lit place) (drop at (now (form .entry)))) ⌝ }
 {
-    read_place(form, at, crate::map::is_lit(lit, place))
+    read_place(form, at, lit.is_lit(place))
+}
+
+// A refusal, with no place lit.
+fn no_records(refusal: Refusal) -> RecordsRead
+    ensures { λ r. ⌜ r ≡ noRecords refusal ⌝ }
+{
+    RecordsRead {
+        verdict: Verdict::Refused(refusal),
+        channels: channels::unlit_channels(),
+        at: 0,
+    }
 }
 
 // Reads the records of all places.
 pub fn read_records(form: &[u8], start: usize, lit: Lit) -> RecordsRead
     requires { ⌜ start ≤ length (now form) ⌝ }
-    ensures { λ r. ⌜ RecordsAt (now (form .entry)) r (readRecords (litBit lit) 128 0 (drop start (now (form .entry)))) ⌝ }
+    ensures { λ r. ⌜ RecordsAt (now (form .entry)) r (readRecords (litBit lit) placeCount 0 (drop start (now (form .entry)))) ⌝ }
 {
-    let mut channels = [Channel { slot: Slot::Unlit }; 128];
+    let mut channels = channels::unlit_channels();
     let mut at = start;
-    for place in 0..128 {
+    for place in 0..PLACE_COUNT {
         match read_content(form, at, lit, place) {
             SlotRead::Refused(refusal) => {
-                return RecordsRead {
-                    verdict: Verdict::Refused(refusal),
-                    channels,
-                    at,
-                };
+                return no_records(refusal);
             }
             SlotRead::Got(slot, next) => {
                 channels[place] = Channel { slot };

@@ -2,7 +2,7 @@
 use mathlib.Core.Path.{_≡_, refl, sym}
 use mathlib.Core.Bool.{true, false}
 use mathlib.Core.List.{List, _++_}
-use Prim.Native.Nat.{ℕ, _≤_}
+use Prim.Native.Nat.{ℕ}
 use native.Mathlib.Omega.{arith}
 use Rattle.basis.proofs.Branch.{pick-false}
 use Rattle.lightpath.specs.declared.Circuit.{Circuit}
@@ -22,12 +22,10 @@ use Rattle.ring.proofs.Closing.{close-rules}
 use Rattle.requests.specs.declared.Request.{Request}
 use Rattle.requests.specs.declared.Line.{Line}
 use Rattle.requests.specs.Line.{parseLine}
-use Rattle.print.specs.Answers.{Printed, ringLine, closeLine, openLine, moveLines}
+use Rattle.buffer.specs.Put.{Printed}
+use Rattle.buffer.proofs.Put.{wider}
+use Rattle.print.specs.Answers.{ringLine, closeLine, openLine, moveLines, closeRoom, ringRoom, openingRoom}
 use Rattle.desk.specs.Desk.{Desk, Ran, deskWith, refuse, runRing, runOpen, runClose, run, runLine, Runs, Ended}
-
--- a text that takes few bytes takes no more than many
-wider : {m most : ℕ} {l text l′ : List ℕ} {at e : ℕ} → m ≤ most → Printed m l at text l′ e → Printed most l at text l′ e
-wider h p = record { put = p .put; short = omega (arith, p .short) }
 
 -- before the first accepted ring an opening and a closing are refused lines
 unready-open : (d : Desk) (c : Circuit) → d .ready ≡ false → runOpen d c ≡ refuse d
@@ -52,17 +50,17 @@ module _ (d : Desk) (l : List ℕ) (at : ℕ) (s : Runs d l at) where
 
     module _ (e : ℕ) where
       pub opened : (c : Circuit) (a : Decision) → d .ready ≡ true → a ≡ decideOf (d .table) c 3
-          → Printed 205 l at (openLine (c .number) (a .opened .answer) ++ moveLines (listed (a .moves))) l′ e
+          → Printed openingRoom l at (openLine (c .number) (a .opened .answer) ++ moveLines (listed (a .moves))) l′ e
           → Ended (runOpen d c) l at l′ (record { desk = deskWith (a .opened .table); next = e })
       unfolding runOpen
       opened c a h k p = record { desk = rw (h, k); text = rw (h, ← k) p; rules = λ t. rw k (open-rules (d .table) c 3 (s .rules h)) }
 
-      pub closed : (n : ℕ) (a : Answered) → d .ready ≡ true → a ≡ closeOf (d .table) n → Printed 25 l at (closeLine n (a .verdict)) l′ e
+      pub closed : (n : ℕ) (a : Answered) → d .ready ≡ true → a ≡ closeOf (d .table) n → Printed closeRoom l at (closeLine n (a .verdict)) l′ e
           → Ended (runClose d n) l at l′ (record { desk = deskWith (a .table); next = e })
       unfolding runClose
       closed n a h k p = record { desk = rw (h, k); text = rw (h, ← k) (wider (omega arith) p); rules = λ t. rw k (close-rules (d .table) n (s .rules h)) }
 
-      module _ (n w : ℕ) (ks : List ℕ) (a : Answered) (k : a ≡ makeOf n ks) (i : w ≡ wavelengths (a .table .ports)) (p : Printed 39 l at (ringLine n w (a .verdict)) l′ e) where
+      module _ (n w : ℕ) (ks : List ℕ) (a : Answered) (k : a ≡ makeOf n ks) (i : w ≡ wavelengths (a .table .ports)) (p : Printed ringRoom l at (ringLine n w (a .verdict)) l′ e) where
         pub ringed : a .verdict ≡ granted → Ended (runRing d n ks) l at l′ (record { desk = deskWith (a .table); next = e })
         unfolding runRing
         ringed h = record { desk = rw (← k, h); text = rw (← k, ← i) (wider (omega arith) p); rules = λ t. rw k (make-rules n ks (rw k at h)) }

@@ -1,10 +1,12 @@
 -- The desk of a script, and what one line does and prints: document 01, "The script program and its cases". Assumes nothing.
+-- What `run_line` promises.
 use Prim.Native.Nat.{ℕ, _+_, _≤_}
 use mathlib.Core.Path.{_≡_}
 use mathlib.Core.Bool.{true, false}
 use mathlib.Core.List.{List, _++_}
 use lib.ListN.{length, take}
 use Rattle.basis.specs.Choice.{pick}
+use Rattle.limits.specs.Limits.{leastRecords}
 use Rattle.lightpath.specs.declared.Circuit.{Circuit}
 use Rattle.moves.specs.Records.{listed}
 use Rattle.ports.specs.Ports.{wavelengths}
@@ -18,7 +20,8 @@ use Rattle.ring.specs.declared.RingTable.{RingTable}
 use Rattle.requests.specs.declared.Request.{Request}
 use Rattle.requests.specs.declared.Request.the-variants.{Ring, Open, Close, Bad}
 use Rattle.requests.specs.Line.{parseLine}
-use Rattle.print.specs.Answers.{Printed, lineRefused, ringLine, closeLine, openLine, moveLines}
+use Rattle.buffer.specs.Put.{Printed}
+use Rattle.print.specs.Answers.{lineRefused, ringLine, closeLine, openLine, moveLines, openingRoom}
 pub use Rattle.desk.specs.declared.Desk.{Desk}
 pub use Rattle.desk.specs.declared.Ran.{Ran}
 
@@ -54,10 +57,10 @@ runRing d n ks =
     let a = makeOf n ks in
     record { desk = deskAfter d (a .table) (a .verdict); text = ringLine n (wavelengths (a .table .ports)) (a .verdict) }
 
--- "`open number source destination remark`", with three records lent; "an open or close before the first accepted ring" is refused
+-- "`open number source destination remark`", with the least records lent, three; "an open or close before the first accepted ring" is refused
 unfoldable pub runOpen : Desk → Circuit → Outcome
 runOpen d c =
-    let a = decideOf (d .table) c 3 in
+    let a = decideOf (d .table) c leastRecords in
     pick (d .ready) (record { desk = deskWith (a .opened .table); text = openLine (c .number) (a .opened .answer) ++ moveLines (listed (a .moves)) }) (refuse d)
 
 -- "`close number`"
@@ -69,7 +72,7 @@ runClose d n =
 -- a request; of the ports ks the first so many are a ring's
 abbrev pub run : Desk → Request → List ℕ → Outcome
 run d (Ring n count) ks = runRing d n (take count ks)
-run d (Open n source destination remark) ks = runOpen d (record { number = n; source = source; destination = destination; remark = remark })
+run d (Open c) ks = runOpen d c
 run d (Close n) ks = runClose d n
 run d Bad ks = refuse d
 
@@ -77,9 +80,9 @@ run d Bad ks = refuse d
 abbrev pub runLine : Desk → List ℕ → Outcome
 runLine d l = run d (parseLine l .request) (parseLine l .ports)
 
--- the most bytes that a line's answer takes
+-- the most bytes that a line's answer takes: an opening's is the longest
 abbrev pub answerRoom : ℕ
-answerRoom = 205
+answerRoom = openingRoom
 
 -- what running a line asks for: a desk whose table meets the ring rules, and room for the answer
 pub record Runs (d : Desk) (l : List ℕ) (at : ℕ) : Type 0 where

@@ -1,9 +1,15 @@
 // The order desk: one line of a script, run and answered as bytes.
 ghost use Rattle.desk.specs.Desk.{Runs, Ended, runRing, runOpen, runClose, runLine, refuse as Desk·refuse};
+ghost use Rattle.desk.specs.Demand3.{Opens};
 use lightpath::Circuit;
+use limits::LEAST_RECORDS;
+use print::OPENING_ROOM;
 use refusals::Verdict;
 use requests::Request;
 use ring::RingTable;
+
+// The most bytes of a line's answer: an opening's is the longest.
+pub const ANSWER_ROOM: usize = OPENING_ROOM;
 
 // The order desk: the table, once a ring was accepted.
 pub struct Desk {
@@ -52,7 +58,7 @@ fn run_open(desk: Desk, circuit: Circuit, out: &mut [u8], at: usize) -> Ran
     if !desk.ready {
         return refuse(desk, out, at);
     }
-    let decision = desk.table.decide_valid(circuit, 3);
+    let decision = desk.table.decide_valid(circuit, LEAST_RECORDS);
     let opened = decision.opened;
     let answer = opened.answer;
     let next = print::put_opening(out, at, circuit.number, answer, decision.moves);
@@ -84,27 +90,15 @@ fn run_close(desk: Desk, number: u32, out: &mut [u8], at: usize) -> Ran
 // Runs a line without its line end, and writes the answer at a position of the lent bytes.
 pub fn run_line(desk: Desk, line: &[u8], out: &mut [u8], at: usize) -> Ran
     requires { ⌜ Runs desk (now out) at ⌝ }
-    ensures { λ r. ⌜ Ended (runLine desk (now (line .entry))) (now (out .entry)) at (now (out .exit)) r ⌝ }
+    ensures answer { λ r. ⌜ Ended (runLine desk (now (line .entry))) (now (out .entry)) at (now (out .exit)) r ⌝ }
+    ensures demand3 { λ r. ⌜ Opens desk (now (line .entry)) ⌝ }
 {
     let parsed = requests::parse_line(line);
     let request = parsed.request;
     let ports = parsed.ports;
     match request {
         Request::Ring { nodes, count } => run_ring(desk, nodes, &ports[..count], out, at),
-        Request::Open {
-            number,
-            source,
-            destination,
-            remark,
-        } => {
-            let circuit = Circuit {
-                number,
-                source,
-                destination,
-                remark,
-            };
-            run_open(desk, circuit, out, at)
-        }
+        Request::Open { circuit } => run_open(desk, circuit, out, at),
         Request::Close { number } => run_close(desk, number, out, at),
         Request::Bad => refuse(desk, out, at),
     }

@@ -3,8 +3,8 @@ use Prim.Native.Nat.{ℕ}
 use mathlib.Core.Path.{_≡_, refl, _∙_}
 use mathlib.Core.List.{List, [], _∷_, _++_}
 use lib.ListN.{length}
-use Rattle.text.specs.Put.{Room, Put}
-use Rattle.text.proofs.Put.{put-none, put-put, put-length, room-front, room-rest}
+use Rattle.buffer.specs.Put.{Room, Put}
+use Rattle.buffer.proofs.Put.{put-none, put-put, put-length, room-front, room-rest}
 
 -- a part and those after it
 abbrev pub joined : List ℕ → List (List ℕ) → List ℕ

@@ -1,80 +1,83 @@
 -- The bytes of a circuit, part by part. Each law takes what the calls ensured as it stands in the record of a need, so that `search`
 -- finds it. Assumes nothing.
-use Prim.Native.Nat.{ℕ, _/_, _%_}
+use Prim.Native.Nat.{ℕ, suc, _+_, _-_, _/_, _%_, _<_}
 use mathlib.Core.Path.{_≡_, refl}
 use mathlib.Core.List.{List, [], _∷_}
 use native.Mathlib.Nat.{add-zero}
+use native.Mathlib.Omega.{arith}
+use lib.ListN.{take, drop}
+use lib.Seq.{take-all}
 use borrow.Author.Tests.{eq-eqb, ne-eqb}
 use Rattle.lightpath.specs.declared.Circuit.{Circuit}
-use Rattle.text.specs.Put.{Room, Put}
-use Rattle.form.specs.Bytes.{fourBytes, twoBytes}
-use Rattle.form.specs.Form.{remarkBytes, circuitBytes}
+use Rattle.buffer.specs.Put.{Room, Put}
+use Rattle.form.specs.Bytes.{highFirst}
+use Rattle.form.specs.Form.{optionalBytes, numberWidth, remarkWidth, circuitBytes}
+use Rattle.form.proofs.Numbers.{high-long, high-drop}
+use Rattle.encode.specs.Widths.{Wide}
 use Rattle.encode.proofs.Chain.{Putting, start, first, then, done}
 
--- a number of two bytes, and one of four by its halves
-module _ (n : ℕ) (l : List ℕ) (i : ℕ) (h : Room l i (twoBytes n)) where
-  two-begun : Putting l i (twoBytes n) l i (n / 256 ∷ []) ((n % 256 ∷ []) ∷ [])
-  unfolding twoBytes
-  two-begun = start _ _ refl h
+-- the four bytes of a number
+pub four-are : (n : ℕ) → n / 16777216 ∷ n / 65536 % 256 ∷ n / 256 % 256 ∷ n % 256 ∷ [] ≡ highFirst 4 n
+unfolding highFirst
+four-are n =
+    let a : n / 256 / 256 / 256 ≡ n / 16777216 = omega arith in
+    let b : n / 256 / 256 % 256 ≡ n / 65536 % 256 = omega arith in
+    rw (a, b)
 
-  pub high-room : Room l i (n / 256 ∷ [])
-  high-room = first two-begun
+-- a number that fits in so many of them
+module _ (width n : ℕ) (w : Wide width n) (v : List ℕ) (e : v ≡ highFirst 4 n) where
+  last-bytes : take (4 - (4 - width)) (drop (4 - width) v) ≡ highFirst width n
+  last-bytes =
+      let k : suc (width - 1) ≡ width = omega (arith, w .some) in
+      let j : 4 - width + suc (width - 1) ≡ 4 = omega (arith, w .some, w .most) in
+      let d : drop (4 - width) (highFirst 4 n) ≡ highFirst width n = rw (j, k) at (high-drop (4 - width) (width - 1) n (rw k (w .fits))) in
+      rw (e, d) (take-all (4 - (4 - width)) (highFirst width n) (omega (arith, w .most, high-long width n)))
 
-  module _ (l1 : List ℕ) (k : ℕ) (q : Put l i (n / 256 ∷ []) l1 k) where
-    pub low-room : Room l1 k (n % 256 ∷ [])
-    low-room = first (then q two-begun)
+  module _ (l : List ℕ) (i : ℕ) where
+    pub bytes-room : Room l i (highFirst width n) → Room l i (take (4 - (4 - width)) (drop (4 - width) v))
+    bytes-room h = rw last-bytes h
 
-    pub two-put : (l2 : List ℕ) (m : ℕ) → Put l1 k (n % 256 ∷ []) l2 m → Put l i (twoBytes n) l2 m
-    two-put l2 m p = done p (then q two-begun)
+    pub bytes-put : (l1 : List ℕ) (m : ℕ) → Put l i (take (4 - (4 - width)) (drop (4 - width) v)) l1 m → Put l i (highFirst width n) l1 m
+    bytes-put l1 m p = rw last-bytes at p
 
-pub ruleset twoRules = (high-room, low-room, two-put)
+pub ruleset numberRules = (bytes-room, bytes-put)
 
-module _ (n : ℕ) (l : List ℕ) (i : ℕ) (h : Room l i (fourBytes n)) where
-  four-begun : Putting l i (fourBytes n) l i (twoBytes (n / 65536)) (twoBytes (n % 65536) ∷ [])
-  unfolding fourBytes
-  four-begun = start _ _ refl h
+-- an optional field only where it is there
+module _ (width v : ℕ) (l : List ℕ) (i : ℕ) where
+  pub none-put : v ≡ 0 → Put l i (optionalBytes width v) l i
+  unfolding optionalBytes
+  none-put e = rw (eq-eqb v 0 e) (record { is = refl; end = rw add-zero })
 
-  pub higher-room : Room l i (twoBytes (n / 65536))
-  higher-room = first four-begun
+  module _ (h : v ≡ 0 → ⊥) where
+    optional-is : optionalBytes width v ≡ highFirst width v
+    unfolding optionalBytes
+    optional-is = rw (ne-eqb v 0 h)
 
-  module _ (l1 : List ℕ) (k : ℕ) (q : Put l i (twoBytes (n / 65536)) l1 k) where
-    pub lower-room : Room l1 k (twoBytes (n % 65536))
-    lower-room = first (then q four-begun)
+    pub optional-room : Room l i (optionalBytes width v) → Room l i (highFirst width v)
+    optional-room q = rw optional-is at q
 
-    pub four-put : (l2 : List ℕ) (m : ℕ) → Put l1 k (twoBytes (n % 65536)) l2 m → Put l i (fourBytes n) l2 m
-    four-put l2 m p = done p (then q four-begun)
+    pub optional-put : (l1 : List ℕ) (n : ℕ) → Put l i (highFirst width v) l1 n → Put l i (optionalBytes width v) l1 n
+    optional-put l1 n q = rw optional-is q
 
-pub ruleset fourRules = (higher-room, lower-room, four-put)
+pub ruleset optionalRules = (none-put, optional-room, optional-put)
 
--- a remark only where there is one
-module _ (r : ℕ) (l : List ℕ) (i : ℕ) where
-  pub no-remark : r ≡ 0 → Put l i (remarkBytes r) l i
-  unfolding remarkBytes
-  no-remark e = rw (eq-eqb r 0 e) (record { is = refl; end = rw add-zero })
+-- a number of 32 bits fits in four bytes, and one of 16 in two
+pub wide-four : (n : ℕ) → n < 4294967296 → Wide 4 n
+wide-four n h = record { some = omega arith; most = omega arith; fits = h }
 
-  module _ (h : r ≡ 0 → ⊥) where
-    remark-is : remarkBytes r ≡ twoBytes r
-    unfolding remarkBytes
-    remark-is = rw (ne-eqb r 0 h)
-
-    pub remark-room : Room l i (remarkBytes r) → Room l i (twoBytes r)
-    remark-room q = rw remark-is at q
-
-    pub remark-put : (l1 : List ℕ) (n : ℕ) → Put l i (twoBytes r) l1 n → Put l i (remarkBytes r) l1 n
-    remark-put l1 n q = rw remark-is q
-
-pub ruleset remarkRules = (no-remark, remark-room, remark-put)
+pub wide-two : (n : ℕ) → n < 65536 → Wide 2 n
+wide-two n h = record { some = omega arith; most = omega arith; fits = h }
 
 -- a circuit: number, source, destination, remark
 module _ (c : Circuit) (l : List ℕ) (i : ℕ) (h : Room l i (circuitBytes c)) where
-  circuit-begun : Putting l i (circuitBytes c) l i (fourBytes (c .number)) ((c .source ∷ []) ∷ (c .destination ∷ []) ∷ remarkBytes (c .remark) ∷ [])
+  circuit-begun : Putting l i (circuitBytes c) l i (highFirst numberWidth (c .number)) ((c .source ∷ []) ∷ (c .destination ∷ []) ∷ optionalBytes remarkWidth (c .remark) ∷ [])
   unfolding circuitBytes
   circuit-begun = start _ _ refl h
 
-  pub number-room : Room l i (fourBytes (c .number))
+  pub number-room : Room l i (highFirst numberWidth (c .number))
   number-room = first circuit-begun
 
-  module _ (l1 : List ℕ) (n1 : ℕ) (q1 : Put l i (fourBytes (c .number)) l1 n1) where
+  module _ (l1 : List ℕ) (n1 : ℕ) (q1 : Put l i (highFirst numberWidth (c .number)) l1 n1) where
     pub source-room : Room l1 n1 (c .source ∷ [])
     source-room = first (then q1 circuit-begun)
 
@@ -83,10 +86,10 @@ module _ (c : Circuit) (l : List ℕ) (i : ℕ) (h : Room l i (circuitBytes c)) 
       destination-room = first (then q2 (then q1 circuit-begun))
 
       module _ (l3 : List ℕ) (n3 : ℕ) (q3 : Put l2 n2 (c .destination ∷ []) l3 n3) where
-        pub last-room : Room l3 n3 (remarkBytes (c .remark))
+        pub last-room : Room l3 n3 (optionalBytes remarkWidth (c .remark))
         last-room = first (then q3 (then q2 (then q1 circuit-begun)))
 
-        pub circuit-put : (l4 : List ℕ) (n4 : ℕ) → Put l3 n3 (remarkBytes (c .remark)) l4 n4 → Put l i (circuitBytes c) l4 n4
+        pub circuit-put : (l4 : List ℕ) (n4 : ℕ) → Put l3 n3 (optionalBytes remarkWidth (c .remark)) l4 n4 → Put l i (circuitBytes c) l4 n4
         circuit-put l4 n4 q4 = done q4 (then q3 (then q2 (then q1 circuit-begun)))
 
-pub ruleset circuitRules = (number-room, source-room, destination-room, last-room, circuit-put)
+pub ruleset circuitRules = (wide-four, wide-two, number-room, source-room, destination-room, last-room, circuit-put)

@@ -1,7 +1,7 @@
 -- The length of a form. Assumes nothing.
 use Prim.Native.Nat.{ℕ, _+_, _*_, _≤_, _<_}
-use mathlib.Core.Path.{_≡_, ap, _∙_}
-use mathlib.Core.List.{[], _∷_}
+use mathlib.Core.Path.{_≡_, sym, ap, _∙_}
+use mathlib.Core.List.{List, [], _∷_}
 use native.Mathlib.Numerals.{add-one}
 use native.Mathlib.Omega.{arith}
 use lib.ListN.{length, getD, drop, length-append, drop-of-length-le}
@@ -17,18 +17,28 @@ use Rattle.lit_words.specs.Lit.{onesOf}
 use Rattle.channels.specs.Channels.{Channels, unlitChannel, at, litPlaces, litOf}
 use Rattle.channels.proofs.LitPlaces.{lit-places}
 use Rattle.ring.specs.declared.RingTable.{RingTable}
-use Rattle.form.specs.Bytes.{fourBytes, twoBytes}
-use Rattle.form.specs.Form.{remarkBytes, circuitBytes, recordBytes, recordsBytes, formOf}
+use Rattle.form.specs.Bytes.{highFirst}
+use Rattle.form.specs.Form.{optionalBytes, circuitMost, numberWidth, remarkWidth, circuitBytes, recordBytes, recordsBytes, formOf}
+use Rattle.form.proofs.Numbers.{high-long}
 use Rattle.form.proofs.Length.{form-length}
 
--- a circuit takes six bytes, and two more for a remark
-pub plain-long : (c : Circuit) → c .remark ≡ 0 → 6 ≡ length (circuitBytes c)
-unfolding circuitBytes fourBytes twoBytes remarkBytes
-plain-long c h = rw (eq-eqb (c .remark) 0 h)
+-- an optional field takes no byte, or as many as it is wide
+pub none-long : (width v : ℕ) → v ≡ 0 → 0 ≡ length (optionalBytes width v)
+unfolding optionalBytes
+none-long width v h = rw (eq-eqb v 0 h)
 
-pub remark-long : (c : Circuit) → (c .remark ≡ 0 → ⊥) → 8 ≡ length (circuitBytes c)
-unfolding circuitBytes fourBytes twoBytes remarkBytes
-remark-long c h = rw (ne-eqb (c .remark) 0 h)
+pub there-long : (width v : ℕ) → (v ≡ 0 → ⊥) → width ≡ length (optionalBytes width v)
+unfolding optionalBytes
+there-long width v h = rw (ne-eqb v 0 h) (sym (high-long width v))
+
+pub ruleset optionalLengths = (none-long, there-long)
+
+-- a circuit takes six bytes, and those of its optional fields
+pub circuit-long : (c : Circuit) (n : ℕ) → n ≡ length (optionalBytes remarkWidth (c .remark)) → 6 + n ≡ length (circuitBytes c)
+unfolding circuitBytes
+circuit-long c n e =
+    let remark : List ℕ = optionalBytes remarkWidth (c .remark) in
+    omega (arith, length-append (highFirst numberWidth (c .number)) (c .source ∷ c .destination ∷ remark), high-long numberWidth (c .number))
 
 -- a record takes a byte more than its circuits, and an unlit place none
 pub unlit-long : (s : Slot) → s ≡ unlit → 0 + bit (isLit s) ≡ length (recordBytes s)
@@ -44,19 +54,19 @@ pub shared-long : (s : Slot) (a b : Circuit) (n m : ℕ) → s ≡ shared a b �
 unfolding recordBytes
 shared-long s a b n m e g h = rw e (omega (arith, length-append (circuitBytes a) (circuitBytes b)))
 
-pub ruleset lengths = (plain-long, remark-long, unlit-long, alone-long, shared-long)
+pub ruleset lengths = (unlit-long, alone-long, shared-long)
 
 -- the circuits of the places below p take sum bytes
 pub record Measured (chs : Channels) (p sum : ℕ) : Type 0 where
   pub is : length (recordsBytes chs) + litPlaces (drop p chs) ≡ sum + litPlaces chs + length (recordsBytes (drop p chs))
-  pub small : sum ≤ 16 * p
+  pub small : sum ≤ 2 * circuitMost * p
 
 module _ (chs : Channels) where
   pub measured-none : Measured chs 0 0
   measured-none = record { is = omega arith; small = omega arith }
 
   module _ (p sum : ℕ) (q : Measured chs p sum) where
-    pub measured-next : (n : ℕ) → p < length chs → (n + bit (isLit (getD chs p unlitChannel .slot)) ≡ length (recordBytes (getD chs p unlitChannel .slot))) × (n ≤ 16)
+    pub measured-next : (n : ℕ) → p < length chs → (n + bit (isLit (getD chs p unlitChannel .slot)) ≡ length (recordBytes (getD chs p unlitChannel .slot))) × (n ≤ 2 * circuitMost)
         → Measured chs (p + 1) (sum + n)
     unfolding recordsBytes
     measured-next n h e =

@@ -2,7 +2,7 @@
 pub mod Chain
 pub mod Circuits
 pub mod Records
-pub mod Words
+pub mod MapWords
 pub mod Lengths
-pub mod Whole
+pub mod FormParts
 pub mod Answers

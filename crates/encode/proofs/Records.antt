@@ -1,7 +1,6 @@
 -- The record of a place, part by part, and the records one after the other. Assumes nothing.
 use Prim.Native.Nat.{ℕ, _+_, _*_, _≤_, _<_}
 use mathlib.Core.Path.{_≡_, refl, ap}
-use mathlib.Core.Bool.{Bool, true, false}
 use mathlib.Core.List.{List, [], _∷_, _++_}
 use native.Mathlib.Nat.{add-zero}
 use native.Mathlib.Numerals.{add-one}
@@ -14,27 +13,27 @@ use Rattle.slots.specs.declared.Slot.{Slot}
 use Rattle.slots.specs.declared.Slot.the-variants.{Unlit as unlit, Alone as alone, Shared as shared}
 use Rattle.lit_words.specs.Lit.{word}
 use Rattle.channels.specs.Channels.{Channels, unlitChannel}
-use Rattle.text.specs.Put.{Room, Put}
-use Rattle.form.specs.Form.{hasRemark, fieldMap, circuitBytes, recordBytes, recordsBytes}
+use Rattle.buffer.specs.Put.{Room, Put}
+use Rattle.form.specs.Form.{present, fieldBits, fieldMap, circuitBytes, recordBytes, recordsBytes}
 use Rattle.encode.proofs.Chain.{Putting, start, first, again, none, then, done}
 
--- the field map, from the marks of its circuits
-alone-map : (x : Bool) (n : ℕ) → n ≡ bit x → n ≡ fieldMap x false false
+-- the field map, from the bits of its fields
+pub alone-map : (a : Circuit) (n : ℕ) → n ≡ bit (present (a .remark)) → n ≡ fieldMap (fieldBits (alone a))
 unfolding fieldMap word
-alone-map x n e = omega (arith, e)
+alone-map a n e = omega (arith, e)
 
-pub shared-map : (x y : Bool) (n m : ℕ) → n ≡ bit x → m ≡ bit y → n + 2 + 4 * m ≡ fieldMap x true y
+pub shared-map : (a b : Circuit) (n m : ℕ) → n ≡ bit (present (a .remark)) → m ≡ bit (present (b .remark)) → n + 2 + 4 * m ≡ fieldMap (fieldBits (shared a b))
 unfolding fieldMap word
-shared-map x y n m e g = omega (arith, e, g)
+shared-map a b n m e g = omega (arith, e, g)
 
 -- a record of one circuit
-module _ (a : Circuit) (m : ℕ) (g : m ≡ bit (hasRemark a)) (l : List ℕ) (i : ℕ) (h : Room l i (recordBytes (alone a))) where
+module _ (a : Circuit) (m : ℕ) (g : m ≡ fieldMap (fieldBits (alone a))) (l : List ℕ) (i : ℕ) (h : Room l i (recordBytes (alone a))) where
   alone-begun : Putting l i (recordBytes (alone a)) l i (m ∷ []) (circuitBytes a ∷ [])
   unfolding recordBytes
-  alone-begun = start _ _ (rw (alone-map (hasRemark a) m g)) h
+  alone-begun = start _ _ (rw g) h
 
-  pub mark-room : Room l i (m ∷ [])
-  mark-room = first alone-begun
+  pub alone-map-room : Room l i (m ∷ [])
+  alone-map-room = first alone-begun
 
   module _ (l1 : List ℕ) (n1 : ℕ) (q1 : Put l i (m ∷ []) l1 n1) where
     pub alone-room : Room l1 n1 (circuitBytes a)
@@ -43,10 +42,10 @@ module _ (a : Circuit) (m : ℕ) (g : m ≡ bit (hasRemark a)) (l : List ℕ) (i
     pub alone-put : (l2 : List ℕ) (n2 : ℕ) → Put l1 n1 (circuitBytes a) l2 n2 → Put l i (recordBytes (alone a)) l2 n2
     alone-put l2 n2 q2 = done q2 (then q1 alone-begun)
 
-pub ruleset aloneRules = (mark-room, alone-room, alone-put)
+pub ruleset aloneRules = (alone-map-room, alone-room, alone-put)
 
 -- and of two
-module _ (a b : Circuit) (m : ℕ) (g : m ≡ fieldMap (hasRemark a) true (hasRemark b)) (l : List ℕ) (i : ℕ) (h : Room l i (recordBytes (shared a b))) where
+module _ (a b : Circuit) (m : ℕ) (g : m ≡ fieldMap (fieldBits (shared a b))) (l : List ℕ) (i : ℕ) (h : Room l i (recordBytes (shared a b))) where
   shared-begun : Putting l i (recordBytes (shared a b)) l i (m ∷ []) (circuitBytes a ∷ circuitBytes b ∷ [])
   unfolding recordBytes
   shared-begun = start _ _ (rw g) h

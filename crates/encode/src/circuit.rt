@@ -1,37 +1,44 @@
 // Writing a circuit at a position of the lent bytes.
 
-ghost use Rattle.text.specs.Put.{Room, Put};
-ghost use Rattle.form.specs.Bytes.{fourBytes, twoBytes};
-ghost use Rattle.form.specs.Form.{remarkBytes, circuitBytes};
+ghost use mathlib.Core.Path.{_≡_};
+ghost use Rattle.buffer.specs.Put.{Room, Put};
+ghost use Rattle.form.specs.Bytes.{highFirst};
+ghost use Rattle.form.specs.Form.{optionalBytes, circuitBytes};
+ghost use Rattle.encode.specs.Widths.{Wide};
+use form::NUMBER_WIDTH;
+use form::REMARK_WIDTH;
 use lightpath::Circuit;
 
-// Writes a number of 16 bits, highest byte first.
-fn put_two(out: &mut [u8], at: usize, value: u16) -> usize
-    requires { ⌜ Room (now out) at (twoBytes value) ⌝ }
-    ensures { λ r. ⌜ Put (now (out .entry)) at (twoBytes value) (now (out .exit)) r ⌝ }
+// The four bytes of a number, highest first.
+fn four_bytes(value: u32) -> [u8; 4]
+    ensures { λ r. ⌜ r ≡ highFirst 4 value ⌝ }
 {
-    let next = text::put_byte(out, at, (value / 256) as u8);
-    text::put_byte(out, next, (value % 256) as u8)
+    let highest = (value / 16777216) as u8;
+    let high = (value / 65536 % 256) as u8;
+    let low = (value / 256 % 256) as u8;
+    let lowest = (value % 256) as u8;
+    [highest, high, low, lowest]
 }
 
-// Writes a number of 32 bits, highest byte first.
-fn put_four(out: &mut [u8], at: usize, value: u32) -> usize
-    requires { ⌜ Room (now out) at (fourBytes value) ⌝ }
-    ensures { λ r. ⌜ Put (now (out .entry)) at (fourBytes value) (now (out .exit)) r ⌝ }
+// Writes a number as so many bytes, highest first.
+fn put_number(out: &mut [u8], at: usize, value: u32, width: usize) -> usize
+    requires { ⌜ Wide width value × Room (now out) at (highFirst width value) ⌝ }
+    ensures { λ r. ⌜ Put (now (out .entry)) at (highFirst width value) (now (out .exit)) r ⌝ }
 {
-    let next = put_two(out, at, (value / 65536) as u16);
-    put_two(out, next, (value % 65536) as u16)
+    let bytes = four_bytes(value);
+    let start = 4 - width;
+    buffer::put_text(out, at, &bytes[start..])
 }
 
-// Writes a remark where there is one.
-fn put_remark(out: &mut [u8], at: usize, remark: u16) -> usize
-    requires { ⌜ Room (now out) at (remarkBytes remark) ⌝ }
-    ensures { λ r. ⌜ Put (now (out .entry)) at (remarkBytes remark) (now (out .exit)) r ⌝ }
+// Writes an optional field of so many bytes, where it is there.
+fn put_optional(out: &mut [u8], at: usize, value: u32, width: usize) -> usize
+    requires { ⌜ Wide width value × Room (now out) at (optionalBytes width value) ⌝ }
+    ensures { λ r. ⌜ Put (now (out .entry)) at (optionalBytes width value) (now (out .exit)) r ⌝ }
 {
-    if remark == 0 {
+    if value == 0 {
         return at;
     }
-    put_two(out, at, remark)
+    put_number(out, at, value, width)
 }
 
 // Writes a circuit.
@@ -39,8 +46,8 @@ pub fn put_circuit(out: &mut [u8], at: usize, circuit: Circuit) -> usize
     requires { ⌜ Room (now out) at (circuitBytes circuit) ⌝ }
     ensures { λ r. ⌜ Put (now (out .entry)) at (circuitBytes circuit) (now (out .exit)) r ⌝ }
 {
-    let source = put_four(out, at, circuit.number);
-    let destination = text::put_byte(out, source, circuit.source);
-    let remark = text::put_byte(out, destination, circuit.destination);
-    put_remark(out, remark, circuit.remark)
+    let source = put_number(out, at, circuit.number, NUMBER_WIDTH);
+    let destination = buffer::put_byte(out, source, circuit.source);
+    let remark = buffer::put_byte(out, destination, circuit.destination);
+    put_optional(out, remark, circuit.remark as u32, REMARK_WIDTH)
 }

@@ -7,13 +7,16 @@ mod places;
 
 ghost use mathlib.Core.Path.{_≡_};
 ghost use mathlib.Core.Bool.{true};
+ghost use mathlib.Core.List.{[], _∷_};
 ghost use Prim.Native.Nat.{_≤_};
 ghost use lib.ListN.{length};
+ghost use Rattle.limits.specs.Limits.{mostNodes};
 ghost use Rattle.channels.specs.Channels.{litOf};
+ghost use Rattle.refusals.specs.Answer.{answerBy};
 ghost use Rattle.ring.specs.Table.{meetsRules};
-ghost use Rattle.text.specs.Put.{Room, Put};
+ghost use Rattle.buffer.specs.Put.{Room, Put};
 ghost use Rattle.form.specs.Form.{formOf};
-ghost use Rattle.encode.specs.Answer.{writtenOf, bytesAfter};
+ghost use Rattle.encode.specs.Answer.{writtenOf, writtenAnswer, writeReasons, bytesAfter};
 use lit_words::Lit;
 use refusals::Refusal;
 use ring::RingTable;
@@ -26,14 +29,14 @@ pub enum Written {
 
 // Writes the form at the start of the lent bytes.
 fn put_form(out: &mut [u8], table: RingTable, lit: Lit) -> usize
-    requires { ⌜ Room (now out) 0 (formOf table) × (table .nodes ≤ 64) × (lit ≡ litOf (table .channels)) ⌝ }
+    requires { ⌜ Room (now out) 0 (formOf table) × (table .nodes ≤ mostNodes) × (lit ≡ litOf (table .channels)) ⌝ }
     ensures { λ r. ⌜ Put (now (out .entry)) 0 (formOf table) (now (out .exit)) r ⌝ }
 {
     let nodes = table.nodes;
     let ports = table.ports;
     let channels = table.channels;
-    let start = text::put_byte(out, 0, nodes);
-    let map = text::put_text(out, start, &ports[..nodes as usize]);
+    let start = buffer::put_byte(out, 0, nodes);
+    let map = buffer::put_text(out, start, &ports[..nodes as usize]);
     let records = map::put_map(out, map, lit);
     places::put_records(out, records, channels)
 }
@@ -41,7 +44,9 @@ fn put_form(out: &mut [u8], table: RingTable, lit: Lit) -> usize
 // Writes the form of a table that meets the ring rules.
 pub fn write_valid(table: RingTable, out: &mut [u8]) -> Written
     requires { ⌜ meetsRules table ≡ true ⌝ }
-    ensures { λ r. ⌜ (r ≡ writtenOf table (length (now (out .entry)))) × (now (out .exit) ≡ bytesAfter table (now (out .entry))) ⌝ }
+    ensures answer { λ r. ⌜ r ≡ writtenOf table (length (now (out .entry))) ⌝ }
+    ensures buffer { λ _. ⌜ now (out .exit) ≡ bytesAfter table (now (out .entry)) ⌝ }
+    ensures numbers { λ r. ⌜ writtenAnswer r ≡ answerBy (writeReasons table (length (now (out .entry)))) (length (formOf table) ∷ []) ⌝ }
 {
     let channels = table.channels;
     let lit = channels::lit_of(channels);
@@ -56,7 +61,9 @@ pub fn write_valid(table: RingTable, out: &mut [u8]) -> Written
 // Writes the form of a table: 22 where it breaks a ring rule, 21 where the lent bytes are too few. The bytes after the form keep their
 // values, and on a refusal all do.
 pub fn write(table: RingTable, out: &mut [u8]) -> Written
-    ensures { λ r. ⌜ (r ≡ writtenOf table (length (now (out .entry)))) × (now (out .exit) ≡ bytesAfter table (now (out .entry))) ⌝ }
+    ensures answer { λ r. ⌜ r ≡ writtenOf table (length (now (out .entry))) ⌝ }
+    ensures buffer { λ _. ⌜ now (out .exit) ≡ bytesAfter table (now (out .entry)) ⌝ }
+    ensures numbers { λ r. ⌜ writtenAnswer r ≡ answerBy (writeReasons table (length (now (out .entry)))) (length (formOf table) ∷ []) ⌝ }
 {
     if !table.meets_rules() {
         return Written::Refused(Refusal::BrokenRule);

@@ -1,7 +1,7 @@
 // Writing the map: the two 64-bit words of the lit places.
 
-ghost use Rattle.text.specs.Put.{Room, Put};
-ghost use Rattle.encode.specs.Words.{lowFirst, wordsBytes};
+ghost use Rattle.buffer.specs.Put.{Room, Put};
+ghost use Rattle.encode.specs.MapWords.{lowFirst, wordsBytes};
 use lit_words::Lit;
 
 // Writes the eight bytes of a word, lowest first.
@@ -12,7 +12,7 @@ fn put_word(out: &mut [u8], start: usize, word: u64) -> usize
     let mut at = start;
     let mut rest = word;
     for byte in 0..8usize {
-        at = text::put_byte(out, at, (rest % 256) as u8);
+        at = buffer::put_byte(out, at, (rest % 256) as u8);
         rest = rest / 256;
     }
     at

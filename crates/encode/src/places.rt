@@ -1,38 +1,45 @@
 // Writing the record of a place, and the records by rising place.
 
 ghost use mathlib.Core.Path.{_≡_};
-ghost use mathlib.Core.Bool.{true};
 ghost use Prim.Native.Nat.{_+_, _≤_};
 ghost use Rattle.basis.specs.Choice.{bit};
-ghost use Rattle.text.specs.Put.{Room, Put};
-ghost use Rattle.form.specs.Form.{hasRemark, fieldMap, recordBytes, recordsBytes};
+ghost use Rattle.buffer.specs.Put.{Room, Put};
+ghost use Rattle.form.specs.Form.{present as Form·present, fieldBits, fieldMap, recordBytes, recordsBytes};
 use channels::Channel;
 use lightpath::Circuit;
+use limits::PLACE_COUNT;
 use slots::Slot;
 
-// 1 where the circuit has a remark.
-fn mark(circuit: Circuit) -> u8
-    ensures { λ r. ⌜ (r ≡ bit (hasRemark circuit)) × (r ≤ 1) ⌝ }
+// 1 where an optional field is there: its bit of the field map.
+fn present(value: u32) -> u8
+    ensures { λ r. ⌜ (r ≡ bit (Form·present value)) × (r ≤ 1) ⌝ }
 {
-    if circuit.remark == 0 {
+    if value == 0 {
         return 0;
     }
     1
 }
 
-// The field map of a place with two circuits.
-fn shared_map(a: Circuit, b: Circuit) -> u8
-    ensures { λ r. ⌜ r ≡ fieldMap (hasRemark a) true (hasRemark b) ⌝ }
+// The field map of a place with one circuit.
+fn alone_map(a: Circuit) -> u8
+    ensures { λ r. ⌜ r ≡ fieldMap (fieldBits (Slot.Alone a)) ⌝ }
 {
-    mark(a) + 2 + 4 * mark(b)
+    present(a.remark as u32)
 }
 
-// Writes the record of a place with one circuit: the field map of a circuit alone is its mark.
+// The field map of a place with two circuits.
+fn shared_map(a: Circuit, b: Circuit) -> u8
+    ensures { λ r. ⌜ r ≡ fieldMap (fieldBits (Slot.Shared a b)) ⌝ }
+{
+    present(a.remark as u32) + 2 + 4 * present(b.remark as u32)
+}
+
+// Writes the record of a place with one circuit.
 fn put_alone(out: &mut [u8], at: usize, a: Circuit) -> usize
     requires { ⌜ Room (now out) at (recordBytes (Slot.Alone a)) ⌝ }
     ensures { λ r. ⌜ Put (now (out .entry)) at (recordBytes (Slot.Alone a)) (now (out .exit)) r ⌝ }
 {
-    let first = text::put_byte(out, at, mark(a));
+    let first = buffer::put_byte(out, at, alone_map(a));
     crate::circuit::put_circuit(out, first, a)
 }
 
@@ -41,7 +48,7 @@ fn put_shared(out: &mut [u8], at: usize, a: Circuit, b: Circuit) -> usize
     requires { ⌜ Room (now out) at (recordBytes (Slot.Shared a b)) ⌝ }
     ensures { λ r. ⌜ Put (now (out .entry)) at (recordBytes (Slot.Shared a b)) (now (out .exit)) r ⌝ }
 {
-    let first = text::put_byte(out, at, shared_map(a, b));
+    let first = buffer::put_byte(out, at, shared_map(a, b));
     let second = crate::circuit::put_circuit(out, first, a);
     crate::circuit::put_circuit(out, second, b)
 }
@@ -59,12 +66,12 @@ fn put_record(out: &mut [u8], at: usize, slot: Slot) -> usize
 }
 
 // Writes the records by rising place.
-pub fn put_records(out: &mut [u8], start: usize, channels: [Channel; 128]) -> usize
+pub fn put_records(out: &mut [u8], start: usize, channels: [Channel; PLACE_COUNT]) -> usize
     requires { ⌜ Room (now out) start (recordsBytes channels) ⌝ }
     ensures { λ r. ⌜ Put (now (out .entry)) start (recordsBytes channels) (now (out .exit)) r ⌝ }
 {
     let mut at = start;
-    for place in 0..128 {
+    for place in 0..PLACE_COUNT {
         let channel = channels[place];
         let slot = channel.slot;
         at = put_record(out, at, slot);

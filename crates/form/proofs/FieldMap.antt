@@ -1,8 +1,9 @@
 -- The field map of a record, and back from its bits. Assumes nothing.
 use Prim.Native.Nat.{ℕ, _/_, _%_, _<_}
-use mathlib.Core.Path.{_≡_}
+use mathlib.Core.Path.{_≡_, _∙_}
 use mathlib.Core.Bool.{Bool, true, false, _||_, not}
-use mathlib.Core.List.{[], _∷_}
+use mathlib.Core.List.{List, [], _∷_}
+use native.Mathlib.Nat.{zero-add}
 use native.Mathlib.Omega.{arith}
 use lib.Dec.{ltb}
 use lib.ListN.{getD}
@@ -10,34 +11,26 @@ use borrow.Author.Tests.{lt-ltb, ltb-true, not-true}
 use Rattle.basis.proofs.Bools.{and-left, and-right}
 use Rattle.basis.proofs.Weigh.{bit-most}
 use Rattle.lit_words.specs.Lit.{bitOf, word}
-use Rattle.lit_words.proofs.Bits.{word-bit}
+use Rattle.lit_words.proofs.Bits.{word-bit, digit}
 use Rattle.form.specs.Form.{fieldMap}
 use Rattle.form.specs.Reading.{mapHolds}
-use Rattle.form.proofs.Words.{digit}
+
+-- the bits of a field map are those that it is made of
+pub map-bit : (bits : List Bool) (b : ℕ) → b < 8 → bitOf (fieldMap bits) b ≡ getD bits b false
+unfolding fieldMap
+map-bit bits b h = word-bit (λ b. getD bits b false) 8 0 b h ∙ rw zero-add
 
 module _ (x y z : Bool) where
-  pub map-bit0 : bitOf (fieldMap x y z) 0 ≡ x
-  unfolding fieldMap
-  map-bit0 = word-bit (λ b. getD (x ∷ y ∷ z ∷ []) b false) 8 0 0 (omega arith)
-
-  pub map-bit1 : bitOf (fieldMap x y z) 1 ≡ y
-  unfolding fieldMap
-  map-bit1 = word-bit (λ b. getD (x ∷ y ∷ z ∷ []) b false) 8 0 1 (omega arith)
-
-  pub map-bit2 : bitOf (fieldMap x y z) 2 ≡ z
-  unfolding fieldMap
-  map-bit2 = word-bit (λ b. getD (x ∷ y ∷ z ∷ []) b false) 8 0 2 (omega arith)
-
-  small : fieldMap x y z < 8
+  small : fieldMap (x ∷ y ∷ z ∷ []) < 8
   unfolding fieldMap word
   small = omega (arith, bit-most x, bit-most y, bit-most z)
 
-  pub field-map-holds : (y || not z) ≡ true → mapHolds (fieldMap x y z) ≡ true
+  pub field-map-holds : (y || not z) ≡ true → mapHolds (fieldMap (x ∷ y ∷ z ∷ [])) ≡ true
   unfolding mapHolds
-  field-map-holds h = rw (lt-ltb (fieldMap x y z) 8 small, map-bit1, map-bit2) h
+  field-map-holds h = let bits : List Bool = x ∷ y ∷ z ∷ [] in rw (lt-ltb (fieldMap bits) 8 small, map-bit bits 1 (omega arith), map-bit bits 2 (omega arith)) h
 
 -- a map that holds is that of its bits
-pub field-map-is : (m : ℕ) → mapHolds m ≡ true → fieldMap (bitOf m 0) (bitOf m 1) (bitOf m 2) ≡ m
+pub field-map-is : (m : ℕ) → mapHolds m ≡ true → fieldMap (bitOf m 0 ∷ bitOf m 1 ∷ bitOf m 2 ∷ []) ≡ m
 unfolding mapHolds fieldMap word bitOf
 field-map-is m h =
     let l : m < 8 = ltb-true m 8 (and-left _ _ h) in

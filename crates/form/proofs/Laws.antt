@@ -1,18 +1,19 @@
 -- A saved form read back gives the table written, and each table has one form. Assumes nothing.
 use Prim.Native.Nat.{ℕ}
-use mathlib.Core.Path.{_≡_, sym, ap, _∙_}
+use mathlib.Core.Path.{_≡_, refl, sym, ap, _∙_}
 use mathlib.Core.Bool.{true}
 use mathlib.Core.List.{List}
 use native.Mathlib.Omega.{arith}
+use Rattle.refusals.specs.Answer.{verdictAnswer}
 use Rattle.refusals.specs.declared.Verdict.the-variants.{Granted as granted}
 use Rattle.ring.specs.Table.{meetsRules}
 use Rattle.ring.specs.declared.RingTable.{RingTable}
 use Rattle.ring.specs.declared.Answered.{Answered}
 use Rattle.form.specs.Form.{formOf}
 use Rattle.form.specs.Reader.{Field, got, fault}
-use Rattle.form.specs.Reading.{answeredBy, readTable, readOf}
+use Rattle.form.specs.Reading.{answeredBy, readTable, readOf, answerIn, readAnswer, NamesAreNumbers}
 use Rattle.form.proofs.Fields.{Holds, AreBytes}
-use Rattle.form.proofs.Whole.{table-back, table-meets, table-wrote}
+use Rattle.form.proofs.Tables.{table-back, table-meets, table-wrote}
 
 -- a table that meets the ring rules, written and read back, is that table
 pub read-back : (t : RingTable) → meetsRules t ≡ true → readOf (formOf t) ≡ record { table = t; verdict = granted }
@@ -22,6 +23,15 @@ read-back t m = rw (table-back t m)
 -- so two such tables with one form are one
 pub one-table : (t u : RingTable) → meetsRules t ≡ true → meetsRules u ≡ true → formOf t ≡ formOf u → t ≡ u
 one-table t u m n e = ap (λ (a : Answered). a .table) (sym (read-back t m) ∙ ap readOf e ∙ read-back u n)
+
+-- the answer of reading in 01's numbers
+pub read-number : (s : List ℕ) → verdictAnswer (readOf s .verdict) ≡ readAnswer s
+unfolding readOf readAnswer
+read-number s = go (readTable s)
+  where
+    go : (f : Field RingTable) → verdictAnswer (answeredBy f .verdict) ≡ answerIn f
+    go (got t r) = refl
+    go (fault n) = refl
 
 granted-holds : (P : RingTable → List ℕ → Type 0) (f : Field RingTable) → Holds P f → answeredBy f .verdict ≡ granted → (r : List ℕ) × P (answeredBy f .table) r
 granted-holds P (got t r) h e = (r, h)
@@ -36,3 +46,7 @@ read-meets s e = granted-holds _ (readTable s) (table-meets s) e .1
 pub write-back : (s : List ℕ) → AreBytes s → readOf s .verdict ≡ granted → formOf (readOf s .table) ≡ s
 unfolding readOf
 write-back s h e = granted-holds _ (readTable s) (table-wrote s h) e .1
+
+-- the names of the refusals of reading are their numbers
+pub names-are-numbers : NamesAreNumbers
+names-are-numbers = (refl, refl, refl, refl, refl, refl, refl)

@@ -4,7 +4,6 @@ use mathlib.Core.Path.{_≡_}
 use mathlib.Core.Bool.{Bool, true, false}
 use mathlib.Core.List.{List, [], _∷_, _++_}
 use native.Mathlib.Omega.{arith}
-use lib.Dec.{eqb}
 use lib.ListN.{length, length-append}
 use lib.Seq.{length-take-le}
 use Rattle.basis.specs.Choice.{pick}
@@ -17,30 +16,37 @@ use Rattle.rules.proofs.Counting.{circuits-most}
 use Rattle.ring.specs.Table.{meetsRules}
 use Rattle.ring.specs.declared.RingTable.{RingTable}
 use Rattle.ring.proofs.TableRules.{table-rules, table-limits}
-use Rattle.form.specs.Bytes.{fourBytes, twoBytes}
-use Rattle.form.specs.Form.{mapBytes, remarkBytes, circuitBytes, recordBytes, recordsBytes, portsBytes, formOf}
-use Rattle.form.proofs.Words.{map-long}
+use Rattle.form.specs.Bytes.{highFirst}
+use Rattle.form.specs.Form.{mapBytes, present, optionalBytes, numberWidth, remarkWidth, mapWidth, longestForm, circuitMost, circuitBytes, recordBytes, recordsBytes, portsBytes, formOf}
+use Rattle.form.proofs.MapBytes.{map-long}
+use Rattle.form.proofs.Numbers.{high-long}
 
--- a remark takes at most two bytes
-remark-most : (r : ℕ) (none : Bool) → length (pick none [] (twoBytes r)) ≤ 2
-unfolding twoBytes
-remark-most r true = omega arith
-remark-most r false = omega arith
+-- an optional field takes no byte, or as many as it is wide
+optional-most : (width v : ℕ) → length (optionalBytes width v) ≤ width
+unfolding optionalBytes
+optional-most width v = go (present v)
+  where
+    go : (there : Bool) → length (pick there (highFirst width v) []) ≤ width
+    go true = omega (arith, high-long width v)
+    go false = omega arith
 
--- a circuit at most eight
-circuit-most : (c : Circuit) → length (circuitBytes c) ≤ 8
-unfolding circuitBytes fourBytes twoBytes remarkBytes
-circuit-most c = omega (arith, remark-most (c .remark) (eqb (c .remark) 0))
+-- so that a circuit takes at most the bytes of all its fields
+circuit-most : (c : Circuit) → length (circuitBytes c) ≤ circuitMost
+unfolding circuitBytes
+circuit-most c =
+    let number : List ℕ = highFirst numberWidth (c .number) in
+    let remark : List ℕ = optionalBytes remarkWidth (c .remark) in
+    omega (arith, length-append number (c .source ∷ c .destination ∷ remark), high-long numberWidth (c .number), optional-most remarkWidth (c .remark))
 
 -- a record one more than its circuits
-record-most : (s : Slot) → length (recordBytes s) ≤ 1 + 8 * length (held s)
+record-most : (s : Slot) → length (recordBytes s) ≤ 1 + circuitMost * length (held s)
 unfolding recordBytes
 record-most unlit = omega arith
 record-most (alone a) = omega (arith, circuit-most a)
 record-most (shared a b) = omega (arith, circuit-most a, circuit-most b, length-append (circuitBytes a) (circuitBytes b))
 
--- so the records take at most a byte for each place and eight for each circuit
-records-most : (chs : Channels) → length (recordsBytes chs) ≤ length chs + 8 * length (circuits chs)
+-- so the records take at most a byte for each place and the most for each circuit
+records-most : (chs : Channels) → length (recordsBytes chs) ≤ length chs + circuitMost * length (circuits chs)
 unfolding recordsBytes
 records-most [] = omega arith
 records-most (ch ∷ chs) =
@@ -50,17 +56,17 @@ records-most (ch ∷ chs) =
 pub form-length : (t : RingTable) → t .nodes ≤ length (t .ports) → length (formOf t) ≡ 17 + t .nodes + length (recordsBytes (t .channels))
 unfolding formOf
 form-length t h =
-    let map : List ℕ = mapBytes (litAt (t .channels)) 16 0 in
+    let map : List ℕ = mapBytes (litAt (t .channels)) mapWidth 0 in
     omega (
       arith,
       length-take-le (t .nodes) (t .ports) h,
       length-append (portsBytes t) (map ++ recordsBytes (t .channels)),
       length-append map (recordsBytes (t .channels)),
-      map-long (litAt (t .channels)) 16 0,
+      map-long (litAt (t .channels)) mapWidth 0,
     )
 
 -- at most 1,745 bytes
-pub form-most : (t : RingTable) → meetsRules t ≡ true → length (formOf t) ≤ 1745
+pub form-most : (t : RingTable) → meetsRules t ≡ true → length (formOf t) ≤ longestForm
 form-most t m =
     let l = table-limits t m in
     omega (

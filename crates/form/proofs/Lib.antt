@@ -1,10 +1,11 @@
 -- The laws of the saved form: its parts, written and read back, read and written back, its length; then the laws of the whole.
-pub mod Words
+pub mod Numbers
+pub mod MapBytes
 pub mod Ports
 pub mod FieldMap
 pub mod Trip
 pub mod Fields
 pub mod Unique
-pub mod Whole
+pub mod Tables
 pub mod Length
 pub mod Laws

@@ -6,63 +6,65 @@ use mathlib.Core.List.{List, [], _∷_, _++_, append-assoc}
 use native.Mathlib.Nat.{add-zero, add-suc, suc-add}
 use native.Mathlib.Omega.{arith}
 use lib.Dec.{eqb}
-use lib.ListN.{length}
+use lib.ListN.{length, length-append}
+use lib.Seq.{take-at, drop-at}
 use borrow.Author.Tests.{le-leb, eqb-true}
 use Rattle.lightpath.specs.declared.Circuit.{Circuit}
 use Rattle.slots.specs.declared.Slot.{Slot}
 use Rattle.slots.specs.declared.Slot.the-variants.{Unlit as unlit, Alone as alone, Shared as shared}
 use Rattle.slots.specs.Slot.{isLit}
 use Rattle.channels.specs.Channels.{Channels, litAt}
-use Rattle.form.specs.Bytes.{fourBytes, twoBytes, numberFrom, numberIn}
-use Rattle.form.specs.Form.{hasRemark, fieldMap, remarkBytes, circuitBytes, recordBytes, recordsBytes}
+use Rattle.form.specs.Bytes.{highFirst}
+use Rattle.form.specs.Form.{present, optionalBytes, numberWidth, remarkWidth, circuitBytes, fieldBits, fieldMap, recordBytes, recordsBytes}
 use Rattle.form.specs.Reader.{got, bytes}
-use Rattle.form.specs.Reading.{readRemark, readCircuit, readSecond, readRecord, readPlace, readRecords}
-use Rattle.form.proofs.FieldMap.{field-map-holds, map-bit0, map-bit1, map-bit2}
+use Rattle.form.specs.Reading.{readOptional, readCircuit, readSecond, readRecord, readPlace, readRecords}
+use Rattle.form.proofs.Numbers.{high-long, high-number}
+use Rattle.form.proofs.FieldMap.{map-bit, field-map-holds}
 
--- numbers are read back
-four-back : (n : ℕ) (s : List ℕ) → bytes 4 (fourBytes n ++ s) ≡ got (fourBytes n) s
-unfolding fourBytes twoBytes
-four-back n s = rw (le-leb 4 (length (fourBytes n ++ s)) (omega arith))
+-- a field of n bytes is read back
+pub bytes-back : (v s : List ℕ) (n : ℕ) → length v ≡ n → bytes n (v ++ s) ≡ got v s
+bytes-back v s n e = rw (le-leb n (length (v ++ s)) (omega (arith, length-append v s)), take-at v s n e, drop-at v s n e)
 
-four-number : (n : ℕ) → numberIn (fourBytes n) ≡ n
-unfolding fourBytes twoBytes numberFrom
-four-number n = omega arith
+-- an optional field is, where it is not 0
+optional-read : (k v : ℕ) (s : List ℕ) (none : Bool) → eqb v 0 ≡ none → readOptional (suc k) (not none) (optionalBytes (suc k) v ++ s) ≡ got v s
+unfolding readOptional optionalBytes
+optional-read k v s true e = rw e (ap (λ (n : ℕ). got n s) (sym (eqb-true v 0 e)))
+optional-read k v s false e = rw (e, bytes-back (highFirst (suc k) v) s (suc k) (high-long (suc k) v), high-number k v, e)
 
-two-back : (n : ℕ) (s : List ℕ) → bytes 2 (twoBytes n ++ s) ≡ got (twoBytes n) s
-unfolding twoBytes
-two-back n s = rw (le-leb 2 (length (twoBytes n ++ s)) (omega arith))
-
-two-number : (n : ℕ) → numberIn (twoBytes n) ≡ n
-unfolding twoBytes numberFrom
-two-number n = omega arith
-
--- a remark is, where it is not 0
-remark-read : (r : ℕ) (s : List ℕ) (none : Bool) → eqb r 0 ≡ none → readRemark (not none) (remarkBytes r ++ s) ≡ got r s
-unfolding readRemark remarkBytes
-remark-read r s true e = rw e (ap (λ (n : ℕ). got n s) (sym (eqb-true r 0 e)))
-remark-read r s false e = rw (e, two-back r s, two-number, e)
-
-remark-back : (r : ℕ) (s : List ℕ) → readRemark (not (eqb r 0)) (remarkBytes r ++ s) ≡ got r s
-remark-back r s = remark-read r s (eqb r 0) refl
+optional-back : (k v : ℕ) (s : List ℕ) → readOptional (suc k) (present v) (optionalBytes (suc k) v ++ s) ≡ got v s
+optional-back k v s = optional-read k v s (eqb v 0) refl
 
 -- a circuit is
-circuit-back : (c : Circuit) (s : List ℕ) → readCircuit (hasRemark c) (circuitBytes c ++ s) ≡ got c s
+circuit-back : (c : Circuit) (s : List ℕ) → readCircuit (present (c .remark)) (circuitBytes c ++ s) ≡ got c s
 unfolding readCircuit circuitBytes
-circuit-back c s = rw (append-assoc, four-back (c .number) (c .source ∷ c .destination ∷ remarkBytes (c .remark) ++ s), remark-back (c .remark) s, four-number)
+circuit-back c s =
+    let number : List ℕ = highFirst numberWidth (c .number) in
+    rw (
+      append-assoc,
+      bytes-back number (c .source ∷ c .destination ∷ optionalBytes remarkWidth (c .remark) ++ s) numberWidth (high-long numberWidth (c .number)),
+      optional-back 1 (c .remark) s,
+      high-number 3 (c .number),
+    )
 
 -- a record is, of one circuit and of two
-alone-back : (a : Circuit) (s : List ℕ) → readRecord (fieldMap (hasRemark a) false false ∷ circuitBytes a ++ s) ≡ got (alone a) s
+alone-back : (a : Circuit) (s : List ℕ) → readRecord (fieldMap (fieldBits (alone a)) ∷ circuitBytes a ++ s) ≡ got (alone a) s
 unfolding readRecord readSecond
 alone-back a s =
-    let x : Bool = hasRemark a in
-    rw (field-map-holds x false false refl, map-bit0 x false false, map-bit1 x false false, circuit-back a s)
+    let bits : List Bool = fieldBits (alone a) in
+    rw (field-map-holds (present (a .remark)) false false refl, map-bit bits 0 (omega arith), map-bit bits 1 (omega arith), circuit-back a s)
 
-shared-back : (a b : Circuit) (s : List ℕ) → readRecord (fieldMap (hasRemark a) true (hasRemark b) ∷ circuitBytes a ++ (circuitBytes b ++ s)) ≡ got (shared a b) s
+shared-back : (a b : Circuit) (s : List ℕ) → readRecord (fieldMap (fieldBits (shared a b)) ∷ circuitBytes a ++ (circuitBytes b ++ s)) ≡ got (shared a b) s
 unfolding readRecord readSecond
 shared-back a b s =
-    let x : Bool = hasRemark a in
-    let y : Bool = hasRemark b in
-    rw (field-map-holds x true y refl, map-bit0 x true y, map-bit1 x true y, map-bit2 x true y, circuit-back a (circuitBytes b ++ s), circuit-back b s)
+    let bits : List Bool = fieldBits (shared a b) in
+    rw (
+      field-map-holds (present (a .remark)) true (present (b .remark)) refl,
+      map-bit bits 0 (omega arith),
+      map-bit bits 1 (omega arith),
+      map-bit bits 2 (omega arith),
+      circuit-back a (circuitBytes b ++ s),
+      circuit-back b s,
+    )
 
 -- a place is, lit or not
 place-back : (x : Slot) (s : List ℕ) → readPlace (isLit x) (recordBytes x ++ s) ≡ got x s

@@ -1,4 +1,5 @@
 -- 01, "Saved form": the bytes of a ring table. Assumes nothing.
+-- What `write` and `read` promise.
 use Prim.Native.Nat.{ℕ, zero, suc, _+_}
 use mathlib.Core.Bool.{Bool, true, false, not}
 use mathlib.Core.List.{List, [], _∷_, _++_}
@@ -11,7 +12,7 @@ use Rattle.slots.specs.declared.Slot.the-variants.{Unlit as unlit, Alone as alo
 use Rattle.lit_words.specs.Lit.{word}
 use Rattle.channels.specs.Channels.{Channels, litAt}
 use Rattle.ring.specs.declared.RingTable.{RingTable}
-use Rattle.form.specs.Bytes.{fourBytes, twoBytes}
+use Rattle.form.specs.Bytes.{highFirst}
 
 -- the map: place p is bit p modulo 8 (0 the lowest) of byte p / 8, so that each byte is the word of eight places. The k bytes for the
 -- places from p on, by which of them are lit
@@ -19,27 +20,45 @@ unfoldable pub mapBytes : (ℕ → Bool) → ℕ → ℕ → List ℕ
 mapBytes lit zero p = []
 mapBytes lit (suc k) p = word lit 8 p ∷ mapBytes lit k (8 + p)
 
--- a circuit has a remark, 0 being none
-abbrev pub hasRemark : Circuit → Bool
-hasRemark c = not (eqb (c .remark) 0)
+-- an optional field is there where it is not 0
+abbrev pub present : ℕ → Bool
+present v = not (eqb v 0)
+
+-- and only then it is written, as so many bytes
+unfoldable pub optionalBytes : ℕ → ℕ → List ℕ
+optionalBytes width v = pick (present v) (highFirst width v) []
+
+-- the number is four bytes, the remark two
+abbrev pub numberWidth : ℕ
+numberWidth = 4
+
+abbrev pub remarkWidth : ℕ
+remarkWidth = 2
+
+-- each circuit's number (four bytes, highest first), source, destination (one byte each), and its optional fields: the remark (two bytes,
+-- highest first)
+unfoldable pub circuitBytes : Circuit → List ℕ
+circuitBytes c = highFirst numberWidth (c .number) ++ (c .source ∷ c .destination ∷ optionalBytes remarkWidth (c .remark))
+
+-- so at most
+abbrev pub circuitMost : ℕ
+circuitMost = numberWidth + 2 + remarkWidth
 
 -- the field map: bit 0 first circuit has a remark, bit 1 second circuit present, bit 2 second has a remark, others zero
-unfoldable pub fieldMap : Bool → Bool → Bool → ℕ
-fieldMap remark second remark2 = word (λ b. getD (remark ∷ second ∷ remark2 ∷ []) b false) 8 0
+abbrev pub fieldBits : Slot → List Bool
+fieldBits unlit = []
+fieldBits (alone a) = present (a .remark) ∷ false ∷ false ∷ []
+fieldBits (shared a b) = present (a .remark) ∷ true ∷ present (b .remark) ∷ []
 
--- the remark (two bytes) only where its bit stands
-unfoldable pub remarkBytes : ℕ → List ℕ
-remarkBytes r = pick (eqb r 0) [] (twoBytes r)
-
--- number (four bytes), source, destination (one byte each), remark
-unfoldable pub circuitBytes : Circuit → List ℕ
-circuitBytes c = fourBytes (c .number) ++ (c .source ∷ c .destination ∷ remarkBytes (c .remark))
+-- the byte of some bits, 0 the lowest; those after them are zero
+unfoldable pub fieldMap : List Bool → ℕ
+fieldMap bits = word (λ b. getD bits b false) 8 0
 
 -- the field map, then each circuit; a place whose bit doesn't stand has no record
 unfoldable pub recordBytes : Slot → List ℕ
 recordBytes unlit = []
-recordBytes (alone a) = fieldMap (hasRemark a) false false ∷ circuitBytes a
-recordBytes (shared a b) = fieldMap (hasRemark a) true (hasRemark b) ∷ (circuitBytes a ++ circuitBytes b)
+recordBytes (alone a) = fieldMap (fieldBits (alone a)) ∷ circuitBytes a
+recordBytes (shared a b) = fieldMap (fieldBits (shared a b)) ∷ (circuitBytes a ++ circuitBytes b)
 
 -- the records by rising place
 unfoldable pub recordsBytes : Channels → List ℕ
@@ -50,6 +69,14 @@ recordsBytes (ch ∷ chs) = recordBytes (ch .slot) ++ recordsBytes chs
 abbrev pub portsBytes : RingTable → List ℕ
 portsBytes t = take (t .nodes) (t .ports)
 
--- N, the ports, the map of 16 bytes, the records; at most 1,745 bytes
+-- the map is 16 bytes
+abbrev pub mapWidth : ℕ
+mapWidth = 16
+
+-- N, the ports, the map, the records
 unfoldable pub formOf : RingTable → List ℕ
-formOf t = t .nodes ∷ (portsBytes t ++ (mapBytes (litAt (t .channels)) 16 0 ++ recordsBytes (t .channels)))
+formOf t = t .nodes ∷ (portsBytes t ++ (mapBytes (litAt (t .channels)) mapWidth 0 ++ recordsBytes (t .channels)))
+
+-- at most 1,745 bytes
+abbrev pub longestForm : ℕ
+longestForm = 1745

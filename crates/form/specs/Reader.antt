@@ -1,4 +1,5 @@
 -- Reading bytes from left to right: a reader takes a field off the front, and `do` puts readers one after the other. Assumes nothing.
+-- What `read` promises.
 use Prim.Native.Nat.{ℕ}
 use mathlib.Core.Bool.{Bool, true, false}
 use mathlib.Core.List.{List, [], _∷_}
@@ -6,7 +7,7 @@ use lib.Dec.{leb}
 use lib.ListN.{length, take, drop}
 use Rattle.basis.specs.Choice.{pick}
 use Rattle.refusals.specs.declared.Refusal.{Refusal}
-use Rattle.refusals.specs.declared.Refusal.the-variants.{CutShort, TrailingBytes}
+use Rattle.refusals.specs.declared.Refusal.the-variants.{CutShort as no-30, TrailingBytes as no-32}
 
 -- a field and the bytes after it, or why it is refused
 pub data Field (A : Type 0) : Type 0 where
@@ -39,13 +40,13 @@ _unless_ r false s = fault r
 
 -- a field of one byte and of n; a field cut short is 30
 abbrev pub byte : Reader ℕ
-byte [] = fault CutShort
+byte [] = fault no-30
 byte (x ∷ s) = got x s
 
 abbrev pub bytes : ℕ → Reader (List ℕ)
-bytes n s = pick (leb n (length s)) (got (take n s) (drop n s)) (fault CutShort)
+bytes n s = pick (leb n (length s)) (got (take n s) (drop n s)) (fault no-30)
 
 -- no byte is left; bytes after the last record are 32
 abbrev pub end : Reader (Unit {0})
 end [] = got tt []
-end (x ∷ s) = fault TrailingBytes
+end (x ∷ s) = fault no-32

@@ -1,67 +1,67 @@
 -- 01, "Saved form" and "Order": a form is checked left to right: N; the ports present; 2; 3; the map; each record in turn; 32; 33.
--- Assumes nothing.
+-- Each refusal is named by its number (`numberOf`). Assumes nothing. What `read` promises.
 use Prim.Native.Nat.{ℕ, zero, suc, _/_, _%_}
+use mathlib.Core.Path.{_≡_}
 use mathlib.Core.Bool.{Bool, true, false, _&&_, _||_, not}
 use mathlib.Core.List.{List, [], _∷_}
-use lib.Dec.{eqb, leb, ltb}
+use lib.Dec.{leb, ltb}
 use lib.ListN.{length, getD}
 use Rattle.basis.specs.Count.{total}
-use Rattle.basis.specs.Search.{everyBelow}
+use Rattle.limits.specs.Limits.{leastNodes, mostNodes, mostPorts, mostTotal, placeCount}
 use Rattle.lightpath.specs.declared.Circuit.{Circuit}
 use Rattle.slots.specs.declared.Slot.{Slot}
 use Rattle.slots.specs.declared.Slot.the-variants.{Unlit as unlit, Alone as alone, Shared as shared}
-use Rattle.lit_words.specs.Lit.{bitOf}
+use Rattle.lit_words.specs.Lit.{bitOf, noneLitFrom}
 use Rattle.channels.specs.Channels.{Channels}
 use Rattle.ports.specs.Ports.{limitOf, eachAtMost}
-use Rattle.refusals.specs.declared.Refusal.the-variants.{NodeCount, PortCount, PortSum, BadField, BrokenForm}
+use Rattle.refusals.specs.Refusal.{numberOf}
+use Rattle.refusals.specs.Answer.{Answer, refusal, done}
+use Rattle.refusals.specs.declared.Refusal.the-variants.{NodeCount as no-1, PortCount as no-2, PortSum as no-3, CutShort as no-30, BadField as no-31, TrailingBytes as no-32, BrokenForm as no-33}
 use Rattle.refusals.specs.declared.Verdict.the-variants.{Granted as granted, Refused as refused}
 use Rattle.ring.specs.Table.{meetsRules, blankTable, freshTable, withChannels}
 use Rattle.ring.specs.declared.RingTable.{RingTable}
 use Rattle.ring.specs.declared.Answered.{Answered}
 use Rattle.form.specs.Bytes.{numberIn}
+use Rattle.form.specs.Form.{present, numberWidth, remarkWidth, mapWidth}
 use Rattle.form.specs.Reader.{Field, got, fault, Reader, _>>=_, _>>_, give, _unless_, byte, bytes, end}
 
 -- N, then the ports of its nodes
 unfoldable pub readPorts : Reader (List ℕ)
 readPorts = do
   N ← byte
-  NodeCount unless leb 3 N && leb N 64
+  no-1 unless leb leastNodes N && leb N mostNodes
   ks ← bytes N
-  PortCount unless eachAtMost 64 ks
-  PortSum unless leb (total ks) 192
+  no-2 unless eachAtMost mostPorts ks
+  no-3 unless leb (total ks) mostTotal
   give ks
 
 -- place p is bit p modulo 8 (0 the lowest) of byte p / 8 of the map
 unfoldable pub mapBit : List ℕ → ℕ → Bool
 mapBit m p = bitOf (getD m (p / 8) 0) (p % 8)
 
--- no place of the 128 from the limit on is lit
-unfoldable pub noneLitFrom : ℕ → (ℕ → Bool) → Bool
-noneLitFrom limit lit = everyBelow 128 (λ p. ltb p limit || not (lit p))
-
 -- the map is one field; a bit at the limit or above is 31
 unfoldable pub readMap : ℕ → Reader (List ℕ)
 readMap limit = do
-  m ← bytes 16
-  BadField unless noneLitFrom limit (mapBit m)
+  m ← bytes mapWidth
+  no-31 unless noneLitFrom limit (mapBit m)
   give m
 
--- a remark where its bit stands, which is then not 0
-unfoldable pub readRemark : Bool → Reader ℕ
-readRemark false = give 0
-readRemark true = do
-  r ← bytes 2
-  BadField unless not (eqb (numberIn r) 0)
-  give (numberIn r)
+-- an optional field of so many bytes where its bit stands, which is then not 0
+unfoldable pub readOptional : ℕ → Bool → Reader ℕ
+readOptional width false = give 0
+readOptional width true = do
+  v ← bytes width
+  no-31 unless present (numberIn v)
+  give (numberIn v)
 
--- number, source, destination, remark
+-- number, source, destination, and the optional fields whose bits stand: the remark
 unfoldable pub readCircuit : Bool → Reader Circuit
 readCircuit remarked = do
-  n ← bytes 4
+  n ← bytes numberWidth
   source ← byte
   destination ← byte
-  r ← readRemark remarked
-  give (record { number = numberIn n; source = source; destination = destination; remark = r })
+  remark ← readOptional remarkWidth remarked
+  give (record { number = numberIn n; source = source; destination = destination; remark = remark })
 
 -- bits 3 to 7 are zero, and bit 2 doesn't stand without bit 1
 unfoldable pub mapHolds : ℕ → Bool
@@ -78,7 +78,7 @@ readSecond a true remarked = do
 unfoldable pub readRecord : Reader Slot
 readRecord = do
   m ← byte
-  BadField unless mapHolds m
+  no-31 unless mapHolds m
   a ← readCircuit (bitOf m 0)
   readSecond a (bitOf m 1) (bitOf m 2)
 
@@ -99,7 +99,7 @@ readRecords lit (suc k) p = do
 unfoldable pub checked : List ℕ → Channels → Reader RingTable
 checked ks chs = do
   let t = withChannels (freshTable (length ks) ks) chs
-  BrokenForm unless meetsRules t
+  no-33 unless meetsRules t
   give t
 
 -- the whole form
@@ -107,7 +107,7 @@ unfoldable pub readTable : Reader RingTable
 readTable = do
   ks ← readPorts
   m ← readMap (limitOf ks)
-  chs ← readRecords (mapBit m) 128 0
+  chs ← readRecords (mapBit m) placeCount 0
   end
   checked ks chs
 
@@ -118,3 +118,17 @@ answeredBy (fault r) = record { table = blankTable; verdict = refused r }
 
 unfoldable pub readOf : List ℕ → Answered
 readOf s = answeredBy (readTable s)
+
+-- 01's number of the answer: that of the refusal, or 0
+abbrev pub answerIn : Field RingTable → Answer
+answerIn (got t s) = done []
+answerIn (fault r) = refusal (numberOf r)
+
+unfoldable pub readAnswer : List ℕ → Answer
+readAnswer s = answerIn (readTable s)
+
+-- the refusals of reading have the numbers that they are named by here
+abbrev pub NamesAreNumbers : Type 0
+NamesAreNumbers =
+    (numberOf no-1 ≡ 1) × (numberOf no-2 ≡ 2) × (numberOf no-3 ≡ 3) × (numberOf no-30 ≡ 30) × (numberOf no-31 ≡ 31) × (numberOf no-32 ≡ 32)
+    × (numberOf no-33 ≡ 33)

@@ -3,6 +3,7 @@
 // A demonstration: `main` promises only that it is safe, and what it prints is held to the file `stdout` by the gate.
 
 use encode::Written;
+use form::LONGEST_FORM;
 use libc::STDOUT_FILENO;
 use refusals::Refusal;
 use refusals::Verdict;
@@ -62,8 +63,8 @@ fn print_refusal(refusal: Refusal) {
     print(b" refused ", wide(refusals::refusal_number(refusal)));
 }
 
-// The bytes of a buffer, with a bar where the first so many end.
-fn print_bytes(buffer: [u8; 30], count: usize) {
+// The first 30 bytes of a buffer, with a bar where the first so many end.
+fn print_bytes(buffer: [u8; LONGEST_FORM], count: usize) {
     let mut i: usize = 0;
     while i < 30 {
         if i == count {
@@ -76,8 +77,8 @@ fn print_bytes(buffer: [u8; 30], count: usize) {
 
 // What writing a table answers, with a buffer of so many bytes of which each is 99, and the buffer afterwards.
 fn write_to(table: RingTable, room: usize) {
-    let mut buffer = [99u8; 30];
-    if 30 < room {
+    let mut buffer = [99u8; LONGEST_FORM];
+    if LONGEST_FORM < room {
         return;
     }
     let written = encode::write(table, &mut buffer[..room]);
@@ -178,8 +179,15 @@ fn read_each() {
     );
 }
 
-// The whole form read; its table and the blank one written, with room and without; the form cut; and each refusal of a form.
+// The most bytes that a form takes.
+fn print_longest() {
+    print(b"a form takes at most ", form::longest_form() as u64);
+    end_line();
+}
+
+// How long a form is at most; the whole form read; its table and the blank one written, with room and without; the form cut; and each refusal of a form.
 fn main() {
+    print_longest();
     let form = ALONE;
     read_from(b"the whole form", &form);
     let table = decode::read(&form).table;

@@ -1,4 +1,5 @@
--- The laws of the geometry: places, links, and which two circuits can share.
+-- The laws of the geometry: places, links, which two circuits can share, and the tests of circuits.
 pub mod Places
 pub mod Links
 pub mod Share
+pub mod Answers

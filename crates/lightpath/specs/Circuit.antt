@@ -1,4 +1,5 @@
 -- 01, "The ring": circuits on a ring of N nodes, their hops and links, and which two can share. Assumes nothing.
+-- What the calls on circuits promise, and every promise means by these words.
 use Prim.Native.Nat.{ℕ, _+_, _-_, _%_}
 use mathlib.Core.Bool.{Bool, _&&_, _||_, not}
 use mathlib.Core.List.{List}

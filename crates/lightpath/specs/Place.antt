@@ -1,4 +1,5 @@
--- 01, "The ring": directions, wavelengths and places. Assumes nothing.
+-- 01, "The ring": directions, wavelengths and places. Assumes nothing. What the calls on wavelengths and places promise, and every
+-- promise means by these words.
 use Prim.Native.Nat.{ℕ, _+_, _*_, _/_, _%_}
 use mathlib.Core.Bool.{Bool, true, false}
 use lib.Dec.{eqb}

@@ -3,7 +3,8 @@
 
 ghost use mathlib.Core.Path.{_≡_};
 ghost use Prim.Native.Nat.{_+_, _*_, _<_};
-ghost use Rattle.lightpath.specs.Place.{placeOf, wavelengthOf, directionOf, sameDirection};
+ghost use Rattle.limits.specs.Limits.{placeCount};
+ghost use Rattle.lightpath.specs.Place.{placeOf, directionOf, sameDirection};
 ghost use Rattle.lightpath.specs.Circuit.{onRing, joins, ahead, hops, uses, adjacent, canShare, shareDirection};
 
 // The two ways round the ring.
@@ -26,6 +27,14 @@ pub struct Circuit {
     pub remark: u16,
 }
 
+// A circuit with all fields zero.
+pub const BLANK_CIRCUIT: Circuit = Circuit {
+    number: 0,
+    source: 0,
+    destination: 0,
+    remark: 0,
+};
+
 impl Direction {
     // Whether the two are one direction.
     pub fn same(self, other: Direction) -> bool
@@ -47,7 +56,7 @@ impl Direction {
 impl Wavelength {
     // The place of the wavelength in a direction.
     pub fn place(self, direction: Direction) -> Place
-        requires { ⌜ self .0 < 128 ⌝ }
+        requires { ⌜ self .0 < placeCount ⌝ }
         ensures { λ r. ⌜ r .0 ≡ placeOf (self .0) direction ⌝ }
     {
         match direction {
@@ -58,13 +67,6 @@ impl Wavelength {
 }
 
 impl Place {
-    // The wavelength of the place.
-    pub fn wavelength(self) -> Wavelength
-        ensures { λ r. ⌜ r .0 ≡ wavelengthOf (self .0) ⌝ }
-    {
-        Wavelength(self.0 / 2)
-    }
-
     // The direction of the place.
     pub fn direction(self) -> Direction
         ensures { λ r. ⌜ r ≡ directionOf (self .0) ⌝ }

@@ -1,10 +1,11 @@
--- The bits of a word: its ones, the trailing zeros of its complement, and words that are made bit by bit. Assumes nothing.
+-- The bits of a word: its ones, the trailing zeros of its complement, words that are made bit by bit, and their bytes. Assumes nothing.
 use Prim.Native.Nat.{ℕ, zero, suc, _+_, _-_, _*_, _/_, _%_, _^_, _<_}
-use mathlib.Core.Path.{_≡_, refl, _∙_}
+use mathlib.Core.Path.{_≡_, refl, ap, _∙_}
 use mathlib.Core.Bool.{Bool, true, false, not}
-use native.Mathlib.Nat.{add-zero, add-suc, suc-add, div-one, div-div-eq-div-mul, pow-suc, pow-succ', le-of-suc-le-suc, not-suc-le-zero}
+use native.Mathlib.Nat.{one-mul, mod-eq-of-lt, add-zero, add-suc, suc-add, div-one, div-div-eq-div-mul, pow-suc, pow-succ', le-of-suc-le-suc, not-suc-le-zero}
 use native.Mathlib.Omega.{arith}
 use lib.Dec.{eqb}
+use lib.Pow.{pow-lt}
 use lib.Count.{ones, ones-step, trailingZeros}
 use borrow.Author.Tests.{eq-eqb, ne-eqb}
 use Rattle.basis.specs.Choice.{bit}
@@ -87,3 +88,31 @@ unfolding word
 word-bit f zero i b h = absurd (not-suc-le-zero h)
 word-bit f (suc k) i zero h = simp (lowest-of, add-zero)
 word-bit f (suc k) i (suc b) h = simp (bit-suc, half-of, add-suc) (simp suc-add at (word-bit f k (suc i) b (le-of-suc-le-suc h)))
+
+-- a binary digit is the bit of the test that it is 1
+pub digit : (x : ℕ) → x < 2 → bit (eqb x 1) ≡ x
+digit zero h = refl
+digit (suc zero) h = refl
+digit (suc (suc x)) h = absurd (omega arith)
+
+-- a number is the word of its bits
+pub word-of : (f : ℕ → Bool) (k i x : ℕ) → x < 2 ^ k → ((b : ℕ) → b < k → f (i + b) ≡ bitOf x b) → word f k i ≡ x
+unfolding word bitOf
+word-of f zero i x h e = omega arith
+word-of f (suc k) i x h e =
+    let low : f i ≡ eqb (x % 2) 1 = simp (add-zero, div-one) at (e 0 (omega arith)) in
+    let up : word f k (suc i) ≡ x / 2 = word-of f k (suc i) (x / 2) (omega (arith, pow-suc 2 k)) (λ b l. simp (suc-add, div-div-eq-div-mul, ← pow-succ') (rw add-suc at (e (suc b) (omega arith)))) in
+    let d : bit (eqb (x % 2) 1) ≡ x % 2 = digit (x % 2) (omega arith) in
+    rw (low, up, d) (omega arith)
+
+-- the lowest byte of a word, and the others
+pub low-byte : (f : ℕ → Bool) (k i : ℕ) → word f (8 + k) i ≡ word f k (8 + i) * 256 + word f 8 i
+unfolding word
+low-byte f k i =
+    let e : 8 + k ≡ suc (suc (suc (suc (suc (suc (suc (suc k))))))) = omega arith in
+    let g : 8 + i ≡ suc (suc (suc (suc (suc (suc (suc (suc i))))))) = omega arith in
+    rw (e, g) (omega arith)
+
+-- one shifted up by b is the word of bit b
+pub shifted : (b : ℕ) → b < 64 → 1 * 2 ^ b % 2 ^ 64 ≡ 2 ^ b
+shifted b h = ap (λ (x : ℕ). x % 2 ^ 64) (one-mul (2 ^ b)) ∙ mod-eq-of-lt (pow-lt h)

@@ -1,3 +1,5 @@
--- The laws of words of bits, and of the two words of lit places.
+-- The laws of the words of the lit places: the bits of one word, the places of both, the words as they are made, and places from a limit on.
 pub mod Bits
-pub mod Words
+pub mod LitBits
+pub mod Built
+pub mod NoneLit

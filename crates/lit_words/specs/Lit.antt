@@ -1,9 +1,12 @@
 -- 01, "Saved form": the map says which places are lit, two 64-bit words. Assumes nothing.
+-- What the calls on the lit words promise.
 use Prim.Native.Nat.{ℕ, zero, suc, _+_, _-_, _*_, _/_, _%_, _^_, _≤_, _<_}
-use mathlib.Core.Bool.{Bool}
+use mathlib.Core.Bool.{Bool, _||_, not}
 use lib.Dec.{eqb, ltb}
 use Rattle.basis.specs.Choice.{pick, bit}
 use Rattle.basis.specs.Count.{countBelow}
+use Rattle.basis.specs.Search.{everyBelow}
+use Rattle.limits.specs.Limits.{placeCount}
 pub use Rattle.lit_words.specs.declared.Lit.{Lit}
 
 -- bit b of w, 0 the lowest
@@ -21,17 +24,22 @@ litBit l p = pick (ltb p 64) (bitOf (l .low) p) (bitOf (l .high) (p - 64))
 
 -- how many places are lit, by the words
 unfoldable pub onesOf : Lit → ℕ
-onesOf lit = countBelow 128 (litBit lit)
+onesOf lit = countBelow placeCount (litBit lit)
+
+-- no place of the 128 from the limit on is lit
+unfoldable pub noneLitFrom : ℕ → (ℕ → Bool) → Bool
+noneLitFrom limit lit = everyBelow placeCount (λ p. ltb p limit || not (lit p))
 
 -- the words of the places that pass a test
 abbrev pub wordsOf : (ℕ → Bool) → Lit
 wordsOf f = record { low = word f 64 0; high = word f 64 64 }
 
--- the words with one place more, p, which is below every place that its word has: it becomes bit 0 there, and the others move up by one
-abbrev pub under : Lit → ℕ → Bool → Lit
-under l p b = pick (ltb p 64) (record { low = l .low * 2 + bit b; high = l .high }) (record { low = l .low; high = l .high * 2 + bit b })
+-- the words with one place more, p, which they do not have yet: its bit is added
+abbrev pub withPlace : Lit → ℕ → Lit
+withPlace l p = pick (ltb p 64) (record { low = l .low + 2 ^ p; high = l .high }) (record { low = l .low; high = l .high + 2 ^ (p - 64) })
 
--- the word of place p has room for it: its highest bit does not stand
-pub record RoomUnder (l : Lit) (p : ℕ) : Type 0 where
-  pub low : p < 64 → l .low < 2 ^ 63
-  pub high : 64 ≤ p → l .high < 2 ^ 63
+-- the word of place p has room for its bit
+pub record RoomFor (l : Lit) (p : ℕ) : Type 0 where
+  pub below : p < placeCount
+  pub low : p < 64 → l .low + 2 ^ p < 2 ^ 64
+  pub high : 64 ≤ p → l .high + 2 ^ (p - 64) < 2 ^ 64

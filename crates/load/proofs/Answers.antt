@@ -2,39 +2,40 @@
 use Prim.Native.Nat.{ℕ, _*_, _≤_, _<_}
 use mathlib.Core.Path.{_≡_, refl}
 use mathlib.Core.Bool.{true, false}
-use mathlib.Core.List.{List, _++_}
+use mathlib.Core.List.{List, [], _++_}
 use native.Mathlib.Omega.{arith}
 use lib.ListN.{length, drop}
 use borrow.Author.Tests.{lt-ltb, le-ltb}
 use Rattle.refusals.specs.declared.Refusal.the-variants.{ShortBuffer, BrokenRule}
 use Rattle.refusals.specs.declared.Verdict.{Verdict}
 use Rattle.refusals.specs.declared.Verdict.the-variants.{Granted as granted, Refused as refused}
+use Rattle.refusals.specs.Answer.{verdictAnswer, answerBy}
 use Rattle.ring.specs.Table.{meetsRules}
 use Rattle.ring.specs.declared.RingTable.{RingTable}
 use Rattle.ring.proofs.TableRules.{table-limits}
 use Rattle.load.specs.Load.{loads}
-use Rattle.load.specs.Report.{reportOf, bufferAfter}
+use Rattle.load.specs.Report.{reportOf, reportReasons, bufferAfter}
 
--- the answer v and the buffer after are those of the report
+-- the answer v, the buffer after and the answer in numbers are those of the report
 abbrev pub Reports : RingTable → List ℕ → Verdict → List ℕ → Type 0
-Reports t out v after = (v ≡ reportOf t (length out)) × (after ≡ bufferAfter t out)
+Reports t out v after = (v ≡ reportOf t (length out)) × ((after ≡ bufferAfter t out) × (verdictAnswer v ≡ answerBy (reportReasons t (length out)) []))
 
 module _ (t : RingTable) (out : List ℕ) where
   -- the table breaks a ring rule
   pub report-broken : meetsRules t ≡ false → Reports t out (refused BrokenRule) out
   unfolding reportOf
-  report-broken h = rw h (refl, refl)
+  report-broken h = rw h (refl, (refl, refl))
 
   -- the buffer is too short
   pub report-short : meetsRules t ≡ true → length out < 2 * t .nodes → Reports t out (refused ShortBuffer) out
   unfolding reportOf
-  report-short h l = rw (h, lt-ltb (length out) (2 * t .nodes) l) (refl, refl)
+  report-short h l = rw (h, lt-ltb (length out) (2 * t .nodes) l) (refl, (refl, refl))
 
   -- neither: the loads are written
   pub report-full : (after : List ℕ) → meetsRules t ≡ true → 2 * t .nodes ≤ length out
       → after ≡ loads (t .nodes) (t .channels) ++ drop (2 * t .nodes) out → Reports t out granted after
   unfolding reportOf
-  report-full after h l e = rw (h, le-ltb (length out) (2 * t .nodes) l) (refl, e)
+  report-full after h l e = rw (h, le-ltb (length out) (2 * t .nodes) l) (refl, (e, refl))
 
 -- a ring that meets the rules has nodes
 pub some-nodes : (t : RingTable) → meetsRules t ≡ true → 0 < t .nodes

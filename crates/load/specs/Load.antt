@@ -1,4 +1,4 @@
--- 01, "Load and link": the load of a link, over the places t of a ring of N nodes. Assumes nothing.
+-- 01, "Load and link": the load of a link, over the places t of a ring of N nodes. Assumes nothing. What `report` promises.
 use Prim.Native.Nat.{ℕ, zero, suc}
 use mathlib.Core.List.{List, [], _∷_, _++_}
 use Rattle.lightpath.specs.Place.{placeOf}

@@ -2,19 +2,21 @@
 
 ghost use mathlib.Core.Path.{_≡_};
 ghost use mathlib.Core.Bool.{true};
-ghost use mathlib.Core.List.{_++_};
+ghost use mathlib.Core.List.{[], _++_};
 ghost use Prim.Native.Nat.{_*_, _<_, _≤_};
 ghost use lib.ListN.{length, drop};
 ghost use Rattle.lightpath.specs.Place.{placeOf};
 ghost use Rattle.slots.specs.Slot.{held};
 ghost use Rattle.channels.specs.Channels.{at};
+ghost use Rattle.refusals.specs.Answer.{verdictAnswer, answerBy};
 ghost use Rattle.ring.specs.Table.{meetsRules};
 ghost use Rattle.lightpath.specs.Circuit.{users};
 ghost use Rattle.load.specs.Load.{linkLoad, loads};
-ghost use Rattle.load.specs.Report.{reportOf, bufferAfter};
+ghost use Rattle.load.specs.Report.{reportOf, reportReasons, bufferAfter};
 use channels::Channel;
 use lightpath::Direction;
 use lightpath::Wavelength;
+use limits::PLACE_COUNT;
 use refusals::Refusal;
 use refusals::Verdict;
 use ring::RingTable;
@@ -37,7 +39,7 @@ fn users(nodes: u8, direction: Direction, link: u8, slot: Slot) -> u8
 // How many lightpaths of a wavelength in a direction use a link.
 fn users_on(
     nodes: u8,
-    channels: [Channel; 128],
+    channels: [Channel; PLACE_COUNT],
     wavelength: u8,
     direction: Direction,
     link: u8,
@@ -51,7 +53,7 @@ fn users_on(
 }
 
 // The number of lightpaths over a link in a direction.
-fn link_load(nodes: u8, channels: [Channel; 128], direction: Direction, link: u8) -> u8
+pub fn link_load(nodes: u8, channels: [Channel; PLACE_COUNT], direction: Direction, link: u8) -> u8
     requires { ⌜ 0 < nodes ⌝ }
     ensures { λ r. ⌜ r ≡ linkLoad nodes channels direction link ⌝ }
 {
@@ -65,7 +67,7 @@ fn link_load(nodes: u8, channels: [Channel; 128], direction: Direction, link: u8
 }
 
 // The loads of every link, each way, into the first bytes of a buffer that has room for them.
-fn fill(nodes: u8, channels: [Channel; 128], out: &mut [u8])
+fn fill(nodes: u8, channels: [Channel; PLACE_COUNT], out: &mut [u8])
     requires { ⌜ (0 < nodes) × (2 * nodes ≤ length (now out)) ⌝ }
     ensures { λ _. ⌜ now (out .exit) ≡ loads nodes channels ++ drop (2 * nodes) (now (out .entry)) ⌝ }
 {
@@ -81,7 +83,9 @@ fn fill(nodes: u8, channels: [Channel; 128], out: &mut [u8])
 // The load report of a table that is known to meet the ring rules.
 pub fn report_valid(table: RingTable, out: &mut [u8]) -> Verdict
     requires { ⌜ meetsRules table ≡ true ⌝ }
-    ensures { λ r. ⌜ (r ≡ reportOf table (length (now (out .entry)))) × (now (out .exit) ≡ bufferAfter table (now (out .entry))) ⌝ }
+    ensures answer { λ r. ⌜ r ≡ reportOf table (length (now (out .entry))) ⌝ }
+    ensures buffer { λ _. ⌜ now (out .exit) ≡ bufferAfter table (now (out .entry)) ⌝ }
+    ensures numbers { λ r. ⌜ verdictAnswer r ≡ answerBy (reportReasons table (length (now (out .entry)))) [] ⌝ }
 {
     if out.len() < 2 * table.nodes as usize {
         return Verdict::Refused(Refusal::ShortBuffer);
@@ -93,7 +97,9 @@ pub fn report_valid(table: RingTable, out: &mut [u8]) -> Verdict
 
 // The load report: for link 1 to N the number of lightpaths clockwise and then counterclockwise, one byte each.
 pub fn report(table: RingTable, out: &mut [u8]) -> Verdict
-    ensures { λ r. ⌜ (r ≡ reportOf table (length (now (out .entry)))) × (now (out .exit) ≡ bufferAfter table (now (out .entry))) ⌝ }
+    ensures answer { λ r. ⌜ r ≡ reportOf table (length (now (out .entry))) ⌝ }
+    ensures buffer { λ _. ⌜ now (out .exit) ≡ bufferAfter table (now (out .entry)) ⌝ }
+    ensures numbers { λ r. ⌜ verdictAnswer r ≡ answerBy (reportReasons table (length (now (out .entry)))) [] ⌝ }
 {
     if !table.meets_rules() {
         return Verdict::Refused(Refusal::BrokenRule);

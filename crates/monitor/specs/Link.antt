@@ -1,5 +1,5 @@
 -- 01, "Load and link": the one-link question of a ring table: link l, wavelength w and direction d, each a number. It gives a 64-bit
--- number: below 4,294,967,296 a circuit's number, from there on none or a refusal. Assumes nothing.
+-- number: below 4,294,967,296 a circuit's number, from there on none or a refusal. Assumes nothing. What `ring_link` promises.
 use Prim.Native.Nat.{ℕ, _+_, _≤_, _<_}
 use mathlib.Core.Bool.{not}
 use mathlib.Core.List.{List, [], _∷_}
@@ -15,7 +15,7 @@ use Rattle.channels.specs.Channels.{at}
 use Rattle.ports.specs.Ports.{wavelengths}
 use Rattle.refusals.specs.Refusal.{numberOf, Cause, _if_, judged}
 use Rattle.refusals.specs.declared.Refusal.{Refusal}
-use Rattle.refusals.specs.declared.Refusal.the-variants.{OffRing, NoWavelength, NoDirection}
+use Rattle.refusals.specs.declared.Refusal.the-variants.{OffRing as no-10, NoWavelength as no-16, NoDirection as no-17}
 use Rattle.refusals.specs.declared.Verdict.{Verdict}
 use Rattle.refusals.specs.declared.Verdict.the-variants.{Granted as granted, Refused as refused}
 use Rattle.ring.specs.declared.RingTable.{RingTable}
@@ -44,7 +44,7 @@ circuitOn t l w d = running (t .nodes) d l (held (at (t .channels) (placeOf w d)
 -- link not 1 to N, wavelength not below W, direction neither 0 nor 1: 10, 16, 17
 abbrev pub linkCauses : RingTable → ℕ → ℕ → ℕ → List Cause
 linkCauses t l w d =
-    (OffRing if not (onRing (t .nodes) l)) ∷ (NoWavelength if not (ltb w (wavelengths (t .ports)))) ∷ (NoDirection if not (ltb d 2)) ∷ []
+    (no-10 if not (onRing (t .nodes) l)) ∷ (no-16 if not (ltb w (wavelengths (t .ports)))) ∷ (no-17 if not (ltb d 2)) ∷ []
 
 -- the first of these that holds refuses the question
 unfoldable pub linkVerdict : RingTable → ℕ → ℕ → ℕ → Verdict

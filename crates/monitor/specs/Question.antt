@@ -1,5 +1,5 @@
 -- 01, "Load and link": the one-link question takes a saved form. It is refused for the form's own causes, then for those of the link, the
--- wavelength and the direction. Assumes nothing.
+-- wavelength and the direction. Assumes nothing. What `ring_link` promises.
 use Prim.Native.Nat.{ℕ}
 use mathlib.Core.List.{List}
 use Rattle.refusals.specs.declared.Verdict.{Verdict}

@@ -96,7 +96,7 @@ fn circuit_on(table: RingTable, link: u64, wavelength: u64, direction: u64) -> u
 }
 
 // The answer to the question of a ring table that meets the rules.
-fn link_of(table: RingTable, link: u64, wavelength: u64, direction: u64) -> u64
+pub fn link_of(table: RingTable, link: u64, wavelength: u64, direction: u64) -> u64
     requires { ⌜ meetsRules table ≡ true ⌝ }
     ensures { λ r. ⌜ r ≡ linkOf table link wavelength direction ⌝ }
 {

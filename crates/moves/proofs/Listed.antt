@@ -1,15 +1,29 @@
--- The moves of an answer: how many they are. Assumes nothing.
+-- The moves of an answer by value and as a list. Assumes nothing.
 use Prim.Native.Nat.{_≤_}
-use mathlib.Core.Path.{_≡_}
+use mathlib.Core.Path.{_≡_, refl}
+use mathlib.Core.List.{List, [], _∷_}
 use native.Mathlib.Omega.{arith}
 use lib.ListN.{length, length-take}
+use Rattle.moves.specs.declared.Move.{Move}
 use Rattle.moves.specs.declared.Moves.{Moves}
-use Rattle.moves.specs.Records.{listed}
-
--- an answer that counts at most three moves lists as many as it counts
-pub length-listed : (a : Moves) → a .count ≤ 3 → length (listed a) ≡ a .count
-length-listed a h = simp length-take (omega arith)
+use Rattle.moves.specs.Records.{movesOf, listed}
 
 -- no answer lists more than three
 pub listed-most : (a : Moves) → length (listed a) ≤ 3
 listed-most a = simp length-take (omega arith)
+
+-- up to three moves by value are listed again as they were
+pub listed-moves : (ms : List Move) → length ms ≤ 3 → listed (movesOf ms) ≡ ms
+listed-moves [] h = refl
+listed-moves (a ∷ []) h = refl
+listed-moves (a ∷ b ∷ []) h = refl
+listed-moves (a ∷ b ∷ c ∷ []) h = refl
+listed-moves (a ∷ b ∷ c ∷ d ∷ ms) h = absurd (omega arith)
+
+-- and counted
+pub count-moves : (ms : List Move) → length ms ≤ 3 → movesOf ms .count ≡ length ms
+count-moves [] h = refl
+count-moves (a ∷ []) h = refl
+count-moves (a ∷ b ∷ []) h = refl
+count-moves (a ∷ b ∷ c ∷ []) h = refl
+count-moves (a ∷ b ∷ c ∷ d ∷ ms) h = absurd (omega arith)

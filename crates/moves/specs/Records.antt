@@ -1,4 +1,4 @@
--- Move records, and the moves of an answer as a list. Assumes nothing.
+-- Move records, and the moves of an answer as a list. Assumes nothing. What `RingTable::open` promises.
 use mathlib.Core.List.{List, [], _∷_}
 use lib.ListN.{take}
 use Rattle.moves.specs.declared.Move.{Move}
@@ -23,6 +23,13 @@ two m n = record { count = 2; first = m; second = n; third = blank }
 -- three moves, in their order
 abbrev pub three : Move → Move → Move → Moves
 three m n o = record { count = 3; first = m; second = n; third = o }
+
+-- a list of up to three moves, by value
+abbrev pub movesOf : List Move → Moves
+movesOf [] = none
+movesOf (a ∷ []) = one a
+movesOf (a ∷ b ∷ []) = two a b
+movesOf (a ∷ b ∷ c ∷ l) = three a b c
 
 -- the moves of an answer, in their order: as many of the three as its count says, and all of them where it says more
 abbrev pub listed : Moves → List Move

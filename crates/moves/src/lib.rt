@@ -1,9 +1,10 @@
 // The records of moved circuits, and the list that a host lends for them.
 
 use lightpath::Place;
+use limits::LEAST_RECORDS;
 ghost use mathlib.Core.Path.{_≡_};
 ghost use Rattle.moves.specs.Records.{none, one, two, three};
-ghost use Rattle.moves.specs.Lent.{blanks, written};
+ghost use Rattle.moves.specs.Lent.{written};
 
 // One move of a running circuit: its number, its old place and its new one.
 pub struct Move {
@@ -77,19 +78,12 @@ impl Moves {
     }
 }
 
-// Three blank records, for a host to lend.
-pub fn blank_list() -> [Move; 3]
-    ensures { λ r. ⌜ r ≡ blanks ⌝ }
-{
-    [BLANK; 3]
-}
-
 // The moves are written to the first records of the lent list, and the others keep their values. A list of fewer than three records is
 // left as it is.
 pub fn write_moves(list: &mut [Move], moves: Moves)
     ensures { λ _. ⌜ now (list .exit) ≡ written (now (list .entry)) moves ⌝ }
 {
-    if list.len() < 3 {
+    if list.len() < LEAST_RECORDS {
         return;
     }
     if 0 < moves.count {

@@ -1,2 +1,3 @@
--- The search for a pair.
+-- The search for a pair, and for x.
 pub mod Seek
+pub mod Lane

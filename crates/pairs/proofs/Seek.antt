@@ -26,23 +26,23 @@ pub record Left {A : Type 0} (f : A → Bool) (l : List A) (k : ℕ) (rest : Lis
 
 module _ {A : Type 0} {f : A → Bool} {l : List A} where
   -- at the start all are left
-  left-start : Left f l 0 l
+  pub left-start : Left f l 0 l
   left-start = record { suffix = refl; none = omega arith }
 
   -- one that is no hit is passed
-  left-miss : {k : ℕ} {x : A} {rest : List A} → Left f l k (x ∷ rest) → f x ≡ false → Left f l (k + 1) rest
+  pub left-miss : {k : ℕ} {x : A} {rest : List A} → Left f l k (x ∷ rest) → f x ≡ false → Left f l (k + 1) rest
   left-miss {k} h e = record { suffix = sym (drop-drop 1 k l) ∙ rw (h .suffix); none = h .none ∙ rw e (omega arith) }
 
   -- one that is a hit is the first
-  left-hit : {k : ℕ} {x : A} {rest : List A} → Left f l k (x ∷ rest) → f x ≡ true → firstPlace f l ≡ k
+  pub left-hit : {k : ℕ} {x : A} {rest : List A} → Left f l k (x ∷ rest) → f x ≡ true → firstPlace f l ≡ k
   left-hit h e = h .none ∙ rw e (omega arith)
 
   -- the next one is that at position k
-  left-at : {k : ℕ} {x : A} {rest : List A} (d : A) → Left f l k (x ∷ rest) → getD l k d ≡ x
+  pub left-at : {k : ℕ} {x : A} {rest : List A} (d : A) → Left f l k (x ∷ rest) → getD l k d ≡ x
   left-at {k} d h = sym (getD-drop k l 0 d ∙ rw add-zero) ∙ rw (h .suffix)
 
   -- where none is left there is no hit
-  left-end : {k : ℕ} → Left f l k [] → length l ≤ firstPlace f l
+  pub left-end : {k : ℕ} → Left f l k [] → length l ≤ firstPlace f l
   left-end {k} h = omega (arith, h .none, length-drop k l, ap length (h .suffix))
 
 -- the search is at the row of position i, with so many looks behind it
@@ -56,12 +56,12 @@ pub record AtPair (list : List Standing) (n i j looks : ℕ) : Type 0 where
   pub left : Left adjacentPair (pairsOf (take n list)) looks (pairsWith (getD list i blankStanding) (drop j (take n list)) ++ pairsOf (drop (i + 1) (take n list)))
 
 -- from a position below n on there are its element and those from the next on
-next : (list : List Standing) (n i : ℕ) → n ≤ length list → i < n → drop i (take n list) ≡ getD list i blankStanding ∷ drop (i + 1) (take n list)
+pub next : (list : List Standing) (n i : ℕ) → n ≤ length list → i < n → drop i (take n list) ≡ getD list i blankStanding ∷ drop (i + 1) (take n list)
 next list n i r h =
     drop-cons (take n list) i blankStanding (rw (length-take-le n list r) h) ∙ rw (getD-take n list i blankStanding h, add-one)
 
 -- and from n on none
-past : (list : List Standing) (n j : ℕ) → n ≤ length list → n ≤ j → drop j (take n list) ≡ []
+pub past : (list : List Standing) (n j : ℕ) → n ≤ length list → n ≤ j → drop j (take n list) ≡ []
 past list n j r h = drop-of-length-le (take n list) {i = j} (rw (length-take-le n list r) h)
 
 module _ {list : List Standing} {n : ℕ} where

@@ -1,2 +1,2 @@
--- The answer of the steps by value.
-pub mod Assigned
+-- A plan of the steps by value.
+pub mod Planned

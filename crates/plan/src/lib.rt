@@ -1,96 +1,58 @@
-// Where a new circuit goes: steps 1 to 3 of document 01, by value, over the places of a ring of so many nodes below a limit;
-// and the places after a closing.
+// Plans by value: what each of document 01's steps does with what was found for a new circuit. A plan needs no places, only what was seen of
+// them; the places are changed by whoever holds them.
 
 ghost use mathlib.Core.Path.{_≡_};
 ghost use Prim.Native.Nat.{_<_};
-ghost use Rattle.channels.specs.Channels.{whereIs};
-ghost use Rattle.channels.specs.Change.{Placed};
-ghost use Rattle.steps.specs.Steps.{planOf, Ready};
-ghost use Rattle.steps.specs.Closing.{closed};
-ghost use Rattle.survey.specs.Survey.{surveyOf};
-ghost use Rattle.plan.specs.Assigned.{plannedOf, assignedOf};
+ghost use lib.Dec.{ltb};
+ghost use Rattle.basis.specs.Choice.{pick};
+ghost use Rattle.limits.specs.Limits.{placeCount};
+ghost use Rattle.steps.specs.Plan.{joining, lighting};
+ghost use Rattle.survey.specs.Survey.{unlitBy};
+ghost use Rattle.plan.specs.Planned.{Plans, Roomy};
 
-mod places;
 mod plan;
 mod rearrange;
 
-use channels::Channel;
-use channels::changed;
+use channels::Changes;
 use lightpath::Circuit;
 use lightpath::Place;
 use moves::Moves;
-use pairs::found_pair;
-use plan::Planned;
 use plan::joined;
 use plan::lighted;
-use rearrange::rearranged;
+pub use rearrange::rearranged;
 use survey::Survey;
 
-// The places after an opening, with the place taken, the moves and the number of pairs tested.
-pub struct Assigned {
-    pub channels: [Channel; 128],
+// A plan: which places get what, the place taken, the moves and the looks.
+pub struct Planned {
+    pub changes: Changes,
     pub place: Place,
     pub moves: Moves,
     pub looks: u16,
 }
 
-// The first of steps 1, 2 and 3 that serves a new circuit, by what was seen of the places.
-fn plan_for(
-    nodes: u8,
-    limit: usize,
-    channels: [Channel; 128],
-    circuit: Circuit,
-    seen: Survey,
-) -> Planned
-    requires { ⌜ Ready nodes limit channels circuit × (seen ≡ surveyOf nodes limit channels circuit) ⌝ }
-    ensures { λ r. ⌜ (r ≡ plannedOf (planOf nodes limit channels circuit)) × Placed (r .changes) ⌝ }
+impl Planned {
+    // A plan that takes a place.
+    fn taking(place: usize, changes: Changes, moves: Moves, looks: u16) -> Planned
+        requires { ⌜ place < placeCount ⌝ }
+        ensures { λ r. ⌜ r ≡ record { changes = changes; place = record { 0 = place }; moves = moves; looks = looks } ⌝ }
+    {
+        Planned {
+            changes,
+            place: Place(place as u8),
+            moves,
+            looks,
+        }
+    }
+}
+
+// Steps 1 and 2, where one of them finds a place below the limit.
+pub fn placed(limit: usize, circuit: Circuit, seen: Survey) -> Planned
+    requires { ⌜ Roomy limit seen ⌝ }
+    ensures { λ r. ⌜ Plans (pick (ltb (seen .join .place) limit) (joining circuit (seen .join)) (lighting circuit (unlitBy seen))) r ⌝ }
 {
     let join = seen.join;
     if join.place < limit {
         return joined(circuit, join);
     }
-    let unlit = seen.lit.lowest_unlit() as usize;
-    if unlit < limit {
-        return lighted(circuit, unlit);
-    }
-    let pair = found_pair(limit, channels, circuit);
-    rearranged(nodes, limit, channels, circuit, pair)
-}
-
-// A new circuit is opened where the steps put it. Its plan is small; the places are copied and changed once, when it stands.
-pub fn assign(
-    nodes: u8,
-    limit: usize,
-    channels: [Channel; 128],
-    circuit: Circuit,
-    seen: Survey,
-) -> Assigned
-    requires { ⌜ Ready nodes limit channels circuit × (seen ≡ surveyOf nodes limit channels circuit) ⌝ }
-    ensures { λ r. ⌜ r ≡ assignedOf nodes limit channels circuit ⌝ }
-{
-    let planned = plan_for(nodes, limit, channels, circuit, seen);
-    let changes = planned.changes;
-    let place = planned.place;
-    let moves = planned.moves;
-    let channels = changed(channels, changes);
-    Assigned {
-        channels,
-        place,
-        moves,
-        looks: planned.looks,
-    }
-}
-
-// The places without the circuit of a number, which stands at a place; none moves.
-pub fn without_circuit(channels: [Channel; 128], number: u32, place: usize) -> [Channel; 128]
-    requires { ⌜ (place ≡ whereIs channels number) × (place < 128) ⌝ }
-    ensures { λ r. ⌜ r ≡ closed channels number ⌝ }
-{
-    let mut after = channels;
-    let channel = after[place];
-    let slot = channel.slot;
-    after[place] = Channel {
-        slot: slot.without(number),
-    };
-    after
+    lighted(circuit, seen.lowest_unlit())
 }

@@ -2,9 +2,11 @@
 
 ghost use mathlib.Core.Path.{_≡_};
 ghost use Prim.Native.Nat.{_<_};
-ghost use Rattle.channels.specs.Change.{Placed};
+ghost use Rattle.limits.specs.Limits.{placeCount};
+ghost use Rattle.moves.specs.Records.{three};
 ghost use Rattle.steps.specs.Plan.{movesTo, joining, lighting, oneMove, twoMoves, threeMoves};
-ghost use Rattle.plan.specs.Assigned.{plannedOf};
+ghost use Rattle.plan.specs.Planned.{Plans};
+use crate::Planned;
 use channels::Change;
 use channels::Changes;
 use channels::Standing;
@@ -14,17 +16,9 @@ use moves::Move;
 use moves::Moves;
 use slots::Slot;
 
-// A plan by value.
-pub struct Planned {
-    pub changes: Changes,
-    pub place: Place,
-    pub moves: Moves,
-    pub looks: u16,
-}
-
 // The record of a move: number, old place, new place.
 fn moves_to(standing: Standing, place: usize) -> Move
-    requires { ⌜ (standing .place < 128) × (place < 128) ⌝ }
+    requires { ⌜ (standing .place < placeCount) × (place < placeCount) ⌝ }
     ensures { λ r. ⌜ r ≡ movesTo standing place ⌝ }
 {
     let circuit = standing.circuit;
@@ -37,43 +31,33 @@ fn moves_to(standing: Standing, place: usize) -> Move
 
 // Step 1: the new circuit joins a partner.
 pub fn joined(circuit: Circuit, partner: Standing) -> Planned
-    requires { ⌜ partner .place < 128 ⌝ }
-    ensures { λ r. ⌜ (r ≡ plannedOf (joining circuit partner)) × Placed (r .changes) ⌝ }
+    requires { ⌜ partner .place < placeCount ⌝ }
+    ensures { λ r. ⌜ Plans (joining circuit partner) r ⌝ }
 {
     let place = partner.place;
     let shared = Change {
         place,
         slot: Slot::together(partner.circuit, circuit),
     };
-    Planned {
-        changes: Changes::one(shared),
-        place: Place(place as u8),
-        moves: Moves::none(),
-        looks: 0,
-    }
+    Planned::taking(place, Changes::one(shared), Moves::none(), 0)
 }
 
 // Step 2: it takes an unlit place.
 pub fn lighted(circuit: Circuit, place: usize) -> Planned
-    requires { ⌜ place < 128 ⌝ }
-    ensures { λ r. ⌜ (r ≡ plannedOf (lighting circuit place)) × Placed (r .changes) ⌝ }
+    requires { ⌜ place < placeCount ⌝ }
+    ensures { λ r. ⌜ Plans (lighting circuit place) r ⌝ }
 {
     let lit = Change {
         place,
         slot: Slot::Alone(circuit),
     };
-    Planned {
-        changes: Changes::one(lit),
-        place: Place(place as u8),
-        moves: Moves::none(),
-        looks: 0,
-    }
+    Planned::taking(place, Changes::one(lit), Moves::none(), 0)
 }
 
 // Step 3a: a stays, b moves to it, and the new circuit takes the place left.
 pub fn one_move(circuit: Circuit, a: Standing, b: Standing, looks: u16) -> Planned
-    requires { ⌜ (a .place < 128) × (b .place < 128) ⌝ }
-    ensures { λ r. ⌜ (r ≡ plannedOf (oneMove circuit a b looks)) × Placed (r .changes) ⌝ }
+    requires { ⌜ (a .place < placeCount) × (b .place < placeCount) ⌝ }
+    ensures { λ r. ⌜ Plans (oneMove circuit a b looks) r ⌝ }
 {
     let stays = a.place;
     let left = b.place;
@@ -85,18 +69,18 @@ pub fn one_move(circuit: Circuit, a: Standing, b: Standing, looks: u16) -> Plann
         place: left,
         slot: Slot::Alone(circuit),
     };
-    Planned {
-        changes: Changes::two(shared, taken),
-        place: Place(left as u8),
-        moves: Moves::one(moves_to(b, stays)),
+    Planned::taking(
+        left,
+        Changes::two(shared, taken),
+        Moves::one(moves_to(b, stays)),
         looks,
-    }
+    )
 }
 
 // Step 3b with an old member a and the new circuit: x moves to a's place, a to x's, the new one joins there.
 pub fn two_moves(circuit: Circuit, x: Standing, a: Standing, looks: u16) -> Planned
-    requires { ⌜ (x .place < 128) × (a .place < 128) ⌝ }
-    ensures { λ r. ⌜ (r ≡ plannedOf (twoMoves circuit x a looks)) × Placed (r .changes) ⌝ }
+    requires { ⌜ (x .place < placeCount) × (a .place < placeCount) ⌝ }
+    ensures { λ r. ⌜ Plans (twoMoves circuit x a looks) r ⌝ }
 {
     let meet = x.place;
     let left = a.place;
@@ -109,18 +93,28 @@ pub fn two_moves(circuit: Circuit, x: Standing, a: Standing, looks: u16) -> Plan
         place: left,
         slot: Slot::Alone(gone),
     };
-    Planned {
-        changes: Changes::two(shared, given),
-        place: Place(meet as u8),
-        moves: Moves::two(moves_to(x, left), moves_to(a, meet)),
+    Planned::taking(
+        meet,
+        Changes::two(shared, given),
+        Moves::two(moves_to(x, left), moves_to(a, meet)),
         looks,
-    }
+    )
+}
+
+// The moves of step 3b with old members a then b, in their order.
+fn three_records(x: Standing, a: Standing, b: Standing) -> Moves
+    requires { ⌜ (x .place < placeCount) × (a .place < placeCount) × (b .place < placeCount) ⌝ }
+    ensures { λ r. ⌜ r ≡ three (movesTo x (a .place)) (movesTo a (x .place)) (movesTo b (x .place)) ⌝ }
+{
+    let meet = x.place;
+    let left = a.place;
+    Moves::three(moves_to(x, left), moves_to(a, meet), moves_to(b, meet))
 }
 
 // Step 3b with old members a then b: x moves to a's place, a and b to x's, and the new circuit takes b's old place.
 pub fn three_moves(circuit: Circuit, x: Standing, a: Standing, b: Standing, looks: u16) -> Planned
-    requires { ⌜ (x .place < 128) × (a .place < 128) × (b .place < 128) ⌝ }
-    ensures { λ r. ⌜ (r ≡ plannedOf (threeMoves circuit x a b looks)) × Placed (r .changes) ⌝ }
+    requires { ⌜ (x .place < placeCount) × (a .place < placeCount) × (b .place < placeCount) ⌝ }
+    ensures { λ r. ⌜ Plans (threeMoves circuit x a b looks) r ⌝ }
 {
     let meet = x.place;
     let left = a.place;
@@ -138,10 +132,10 @@ pub fn three_moves(circuit: Circuit, x: Standing, a: Standing, b: Standing, look
         place: last,
         slot: Slot::Alone(circuit),
     };
-    Planned {
-        changes: Changes::three(shared, given, taken),
-        place: Place(last as u8),
-        moves: Moves::three(moves_to(x, left), moves_to(a, meet), moves_to(b, meet)),
+    Planned::taking(
+        last,
+        Changes::three(shared, given, taken),
+        three_records(x, a, b),
         looks,
-    }
+    )
 }

@@ -1,12 +1,13 @@
 -- The tests on port counts, node by node, in part, and with zeros after them. Assumes nothing.
-use Prim.Native.Nat.{ℕ, zero, suc, _-_, _≤_, _<_, zero-le}
+use Prim.Native.Nat.{ℕ, zero, suc, _+_, _*_, _-_, _≤_, _<_, zero-le}
 use mathlib.Core.Path.{_≡_, refl, sym, _∙_}
 use mathlib.Core.Bool.{Bool, true, false}
 use mathlib.Core.List.{List, [], _∷_, _++_}
 use native.Mathlib.Decide.{ℕ-discrete}
 use native.Mathlib.Omega.{arith}
-use lib.Dec.{eqb, leb}
+use lib.Dec.{eqb, leb, ltb}
 use lib.ListN.{length, getD, take, drop, List·getD-eq-default, replicate}
+use lib.Seq.{take-all}
 use borrow.Author.Tests.{eq-eqb, ne-eqb, le-leb}
 use Rattle.basis.specs.Count.{total}
 use Rattle.basis.specs.Search.{everyBelow}
@@ -14,7 +15,25 @@ use Rattle.basis.proofs.Bools.{and-left, and-right, and-both}
 use Rattle.basis.proofs.Scan.{Passed, scan-all, scan-fail}
 use Rattle.basis.proofs.Sums.{total-padded}
 use Rattle.basis.proofs.Fold.{total-parts}
-use Rattle.ports.specs.Ports.{eachAtMost, portsAt, limitOf}
+use Rattle.limits.specs.Limits.{leastNodes, mostNodes, mostPorts, mostTotal}
+use Rattle.ports.specs.Ports.{wavelengths, limitOf, eachAtMost, portsAt, limits}
+
+-- W is K / 3 rounded up: three times it is at least K, and less than K and 3 more
+pub rounded-up : (ks : List ℕ) → (total ks ≤ 3 * wavelengths ks) × (3 * wavelengths ks < total ks + 3)
+rounded-up ks = (omega arith, omega arith)
+
+-- the sum of as many counts as there are is that of all
+pub total-all : (ks : List ℕ) (w s : ℕ) → length ks ≡ w → s ≡ total (take w ks) → s ≡ total ks
+total-all ks w s e h = h ∙ rw (take-all w ks (omega arith))
+
+-- a count above its limit breaks the limits
+pub limits-counts : (N : ℕ) (ks : List ℕ) (r : Bool) → leastNodes ≤ N → N ≤ mostNodes → r ≡ eachAtMost mostPorts ks → r ≡ false → false ≡ limits N ks
+limits-counts N ks r low high e h = simp (le-leb leastNodes N low, le-leb N mostNodes high, ← e, h)
+
+-- where none is, the sum decides
+pub limits-sum : (N : ℕ) (ks : List ℕ) (r : Bool) (s : ℕ) → leastNodes ≤ N → N ≤ mostNodes → r ≡ eachAtMost mostPorts ks → r ≡ true → s ≡ total ks
+    → leb s mostTotal ≡ limits N ks
+limits-sum N ks r s low high e h sum = simp (le-leb leastNodes N low, le-leb N mostNodes high, ← e, h, sum)
 
 -- the test of every count, position by position
 each-below : (m : ℕ) (ks : List ℕ) → eachAtMost m ks ≡ everyBelow (length ks) (λ j. leb (getD ks j 0) m)
@@ -65,3 +84,7 @@ ports-at ks (suc j) i e n = let z : i - 1 ≡ j = omega arith in rw z
 pub ports-past : (ks : List ℕ) (w node i : ℕ) → i ≡ node → length ks ≡ w → w < i → 0 ≡ portsAt ks node
 ports-past ks w zero i e z l = refl
 ports-past ks w (suc j) i e z l = sym (List·getD-eq-default ks 0 (omega arith))
+
+-- fewer ports are used than there are
+pub used-below : (used most ports : ℕ) → most ≡ ports → ltb used most ≡ ltb used ports
+used-below used most ports e = rw e

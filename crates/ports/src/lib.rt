@@ -5,7 +5,13 @@ ghost use Prim.Native.Nat.{_≤_};
 ghost use lib.Dec.{leb, ltb};
 ghost use lib.ListN.{take};
 ghost use Rattle.basis.specs.Count.{total};
-ghost use Rattle.ports.specs.Ports.{wavelengths, limitOf, eachAtMost, portsAt, limits, spareZero};
+ghost use Rattle.limits.specs.Limits.{mostNodes, portFields, mostPorts};
+ghost use Rattle.ports.specs.Ports.{mostSum, wavelengths, limitOf, eachAtMost, portsAt, limits, spareZero};
+use limits::LEAST_NODES;
+use limits::MOST_NODES;
+use limits::MOST_PORTS;
+use limits::MOST_TOTAL;
+use limits::PORT_FIELDS;
 
 // A count as a wider number.
 fn wide(count: u8) -> u16
@@ -15,9 +21,9 @@ fn wide(count: u8) -> u16
 }
 
 // The sum of the first so many port counts.
-fn sum_of(ports: [u8; 64], count: usize) -> u16
-    requires { ⌜ count ≤ 64 ⌝ }
-    ensures { λ r. ⌜ (r ≡ total (take count ports)) × (r ≤ 16320) ⌝ }
+fn sum_of(ports: [u8; PORT_FIELDS], count: usize) -> u16
+    requires { ⌜ count ≤ portFields ⌝ }
+    ensures { λ r. ⌜ (r ≡ total (take count ports)) × (r ≤ mostSum) ⌝ }
 {
     let mut sum: u16 = 0;
     let mut i: usize = 0;
@@ -29,39 +35,39 @@ fn sum_of(ports: [u8; 64], count: usize) -> u16
 }
 
 // The sum of all port counts.
-pub fn port_total(ports: [u8; 64]) -> u16
-    ensures { λ r. ⌜ (r ≡ total ports) × (r ≤ 16320) ⌝ }
+pub fn port_total(ports: [u8; PORT_FIELDS]) -> u16
+    ensures { λ r. ⌜ (r ≡ total ports) × (r ≤ mostSum) ⌝ }
 {
-    sum_of(ports, 64)
+    sum_of(ports, PORT_FIELDS)
 }
 
 // A third of all port pairs, rounded up: the wavelengths each way.
-pub fn wavelengths(ports: [u8; 64]) -> u16
+pub fn wavelengths(ports: [u8; PORT_FIELDS]) -> u16
     ensures { λ r. ⌜ r ≡ wavelengths ports ⌝ }
 {
     (port_total(ports) + 2) / 3
 }
 
 // The number of places that may be lit: the wavelengths of both directions.
-pub fn place_limit(ports: [u8; 64]) -> usize
+pub fn place_limit(ports: [u8; PORT_FIELDS]) -> usize
     ensures { λ r. ⌜ r ≡ limitOf ports ⌝ }
 {
     2 * wavelengths(ports) as usize
 }
 
-// Whether a port count is at most 64.
+// Whether a port count is within its limit.
 fn count_holds(count: u8) -> bool
-    ensures { λ r. ⌜ r ≡ leb count 64 ⌝ }
+    ensures { λ r. ⌜ r ≡ leb count mostPorts ⌝ }
 {
-    count <= 64
+    count <= MOST_PORTS
 }
 
-// Whether every port count is at most 64.
-pub fn counts_hold(ports: [u8; 64]) -> bool
-    ensures { λ r. ⌜ r ≡ eachAtMost 64 ports ⌝ }
+// Whether every port count is.
+pub fn counts_hold(ports: [u8; PORT_FIELDS]) -> bool
+    ensures { λ r. ⌜ r ≡ eachAtMost mostPorts ports ⌝ }
 {
     let mut i: usize = 0;
-    while i < 64 {
+    while i < PORT_FIELDS {
         if !count_holds(ports[i]) {
             return false;
         }
@@ -71,45 +77,45 @@ pub fn counts_hold(ports: [u8; 64]) -> bool
 }
 
 // Whether the number of nodes and the port counts are within document 01's limits.
-pub fn limits_hold(nodes: u8, ports: [u8; 64]) -> bool
+pub fn limits_hold(nodes: u8, ports: [u8; PORT_FIELDS]) -> bool
     ensures { λ r. ⌜ r ≡ limits nodes ports ⌝ }
 {
-    if nodes < 3 {
+    if nodes < LEAST_NODES {
         return false;
     }
-    if 64 < nodes {
+    if MOST_NODES < nodes {
         return false;
     }
     if !counts_hold(ports) {
         return false;
     }
-    port_total(ports) <= 192
+    port_total(ports) <= MOST_TOTAL
 }
 
 // Whether the port counts beyond the last node are zero.
-pub fn spare_zero(nodes: u8, ports: [u8; 64]) -> bool
-    requires { ⌜ nodes ≤ 64 ⌝ }
+pub fn spare_zero(nodes: u8, ports: [u8; PORT_FIELDS]) -> bool
+    requires { ⌜ nodes ≤ mostNodes ⌝ }
     ensures { λ r. ⌜ r ≡ spareZero nodes ports ⌝ }
 {
     port_total(ports) == sum_of(ports, nodes as usize)
 }
 
 // The ports of a node; none at a node that there is not.
-fn ports_of(ports: [u8; 64], node: u8) -> u8
+pub fn ports_of(ports: [u8; PORT_FIELDS], node: u8) -> u8
     ensures { λ r. ⌜ r ≡ portsAt ports node ⌝ }
 {
     let i = node as usize;
     if i == 0 {
         return 0;
     }
-    if 64 < i {
+    if PORT_FIELDS < i {
         return 0;
     }
     ports[i - 1]
 }
 
 // Whether a node that uses so many transmitters, or receivers, has another.
-pub fn port_free(ports: [u8; 64], node: u8, used: usize) -> bool
+pub fn port_free(ports: [u8; PORT_FIELDS], node: u8, used: usize) -> bool
     ensures { λ r. ⌜ r ≡ ltb used (portsAt ports node) ⌝ }
 {
     let most = ports_of(ports, node);

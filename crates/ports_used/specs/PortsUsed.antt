@@ -1,4 +1,5 @@
--- 01, "The ring": the ports in use, and free ports. Assumes nothing.
+-- 01, "The ring": the ports in use, and free ports. Assumes nothing. What `sent_at` and `received_at` promise, and what the
+-- ring rules and the refusals say of ports in use.
 use Prim.Native.Nat.{ℕ}
 use mathlib.Core.Bool.{Bool}
 use mathlib.Core.List.{List}

@@ -1,25 +1,24 @@
 -- Words printed byte by byte, with numbers put in. Assumes nothing.
 use mathlib.Core.Path.{_≡_, refl}
 use mathlib.Core.List.{List, [], _∷_}
-use Prim.Native.Nat.{ℕ, _+_, _≤_, _<_}
+use Prim.Native.Nat.{ℕ, _+_, _^_, _≤_, _<_}
 use native.Mathlib.Numerals.{add-one}
 use native.Mathlib.Omega.{arith}
 use lib.ListN.{length, drop, getD, drop-of-length-le}
 use lib.Seq.{drop-cons}
 use borrow.Author.Tests.{ne-eqb}
-use Rattle.text.specs.Put.{Put, Room}
+use Rattle.buffer.specs.Put.{Put, Room, Printed}
 use Rattle.text.specs.Decimal.{decimal}
-use Rattle.text.proofs.Put.{put-none, put-put, put-length}
+use Rattle.buffer.proofs.Put.{put-none, put-put, put-length}
 use Rattle.text.proofs.Back.{decimal-short}
-use Rattle.print.specs.Answers.{Printed}
 use Rattle.print.specs.Filled.{filled, filledRoom}
 
--- numbers of at most ten digits
+-- numbers of 32 bits have at most ten digits
 pub record Four (a b c d : ℕ) : Type 0 where
-  pub first : a < 4294967296
-  pub second : b < 4294967296
-  pub third : c < 4294967296
-  pub fourth : d < 4294967296
+  pub first : a < 2 ^ 32
+  pub second : b < 2 ^ 32
+  pub third : c < 2 ^ 32
+  pub fourth : d < 2 ^ 32
 
 -- the words from i on are still to be printed: whatever prints them at this position has printed the whole
 pub record Filling (words : List ℕ) (l0 : List ℕ) (start : ℕ) (whole : List ℕ) (l : List ℕ) (next i a b c d : ℕ) : Type 0 where
@@ -30,7 +29,7 @@ pub record Filling (words : List ℕ) (l0 : List ℕ) (start : ℕ) (whole : Lis
   pub small : Four a b c d
 
 pub fill-none : (words l0 : List ℕ) (start a b c d : ℕ) → start + filledRoom words ≤ length l0
-    → a < 4294967296 → b < 4294967296 → c < 4294967296 → d < 4294967296
+    → a < 2 ^ 32 → b < 2 ^ 32 → c < 2 ^ 32 → d < 2 ^ 32
     → Filling words l0 start (filled words a b c d) l0 start 0 a b c d
 fill-none words l0 start a b c d h s t u v =
     record { rest = λ l′ e p. p; room = omega arith; space = h; long = refl; small = record { first = s; second = t; third = u; fourth = v } }

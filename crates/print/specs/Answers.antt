@@ -1,5 +1,6 @@
 -- What is printed in answer to a request: document 01, "The script program and its cases". Assumes nothing.
-use Prim.Native.Nat.{ℕ, _+_, _≤_}
+-- What `put_opening`, `put_closing`, `put_ring` and `put_line_refused` promise.
+use Prim.Native.Nat.{ℕ, _+_, _*_}
 use Prim.Native.String.{String}
 use mathlib.Core.List.{List, [], _∷_, _++_}
 use Rattle.moves.specs.declared.Move.{Move}
@@ -10,7 +11,6 @@ use Rattle.ring.specs.declared.Opening.{Opening}
 use Rattle.ring.specs.declared.Opening.the-variants.{Taken as taken, Refused as notOpened}
 use Rattle.text.specs.Bytes.{bytes}
 use Rattle.text.specs.Decimal.{decimal}
-use Rattle.text.specs.Put.{Put}
 
 -- words and a number after them
 unfoldable pub piece : List ℕ → ℕ → List ℕ
@@ -36,9 +36,15 @@ closeLine n granted = lineOf (("close ", n) ∷ [])
 closeLine n (refused r) = lineOf (("close refused ", numberOf r) ∷ [])
 
 -- `open 11 place 0 moves 0 looks 0`, or `open 16 refused 13`
+abbrev pub servedLine : ℕ → ℕ → ℕ → ℕ → List ℕ
+servedLine n place moves looks = lineOf (("open ", n) ∷ (" place ", place) ∷ (" moves ", moves) ∷ (" looks ", looks) ∷ [])
+
+abbrev pub refusedLine : ℕ → ℕ → List ℕ
+refusedLine n reason = lineOf (("open ", n) ∷ (" refused ", reason) ∷ [])
+
 abbrev pub openLine : ℕ → Opening → List ℕ
-openLine n (taken p k looks) = lineOf (("open ", n) ∷ (" place ", p .0) ∷ (" moves ", k) ∷ (" looks ", looks) ∷ [])
-openLine n (notOpened r) = lineOf (("open ", n) ∷ (" refused ", numberOf r) ∷ [])
+openLine n (taken p k looks) = servedLine n (p .0) k looks
+openLine n (notOpened r) = refusedLine n (numberOf r)
 
 -- "move lines give number, old place, new place"
 unfoldable pub moveLine : Move → List ℕ
@@ -49,7 +55,23 @@ abbrev pub moveLines : List Move → List ℕ
 moveLines [] = []
 moveLines (m ∷ ms) = moveLine m ++ moveLines ms
 
--- of the lent bytes l, l′ has the text from position at on and is else the same; the text takes at most so many bytes
-pub record Printed (most : ℕ) (l : List ℕ) (at : ℕ) (text : List ℕ) (l′ : List ℕ) (next : ℕ) : Type 0 where
-  pub put : Put l at text l′ next
-  pub short : next ≤ at + most
+-- the most bytes that each takes, with ten digits to a number: `open # place # moves # looks #`, `move # from # to #`, `close refused #`,
+-- `ring # wavelengths #` and `line refused`, each with its line end
+abbrev pub openRoom : ℕ
+openRoom = 67
+
+abbrev pub moveRoom : ℕ
+moveRoom = 46
+
+abbrev pub closeRoom : ℕ
+closeRoom = 25
+
+abbrev pub ringRoom : ℕ
+ringRoom = 39
+
+abbrev pub refusedRoom : ℕ
+refusedRoom = 13
+
+-- an opening's line and three move lines
+abbrev pub openingRoom : ℕ
+openingRoom = openRoom + 3 * moveRoom

@@ -1,4 +1,4 @@
--- The words of a line with numbers put in. Assumes nothing.
+-- The words of a line with numbers put in. Assumes nothing. Serves proofs inside only.
 use Prim.Native.Nat.{ℕ, _+_}
 use mathlib.Core.List.{List, [], _∷_, _++_}
 use lib.Dec.{eqb}

@@ -1,10 +1,11 @@
 // What the script program prints: the lines that answer a request, as text in lent bytes.
-ghost use Prim.Native.Nat.{_+_, _≤_};
+ghost use Prim.Native.Nat.{_+_, _*_, _≤_};
 ghost use mathlib.Core.List.{_++_};
 ghost use lib.ListN.{length};
+ghost use Rattle.buffer.specs.Put.{Printed};
 ghost use Rattle.moves.specs.Records.{listed};
 ghost use Rattle.refusals.specs.Refusal.{numberOf};
-ghost use Rattle.print.specs.Answers.{Printed, lineRefused, ringLine, closeLine, openLine, moveLine, moveLines};
+ghost use Rattle.print.specs.Answers.{lineRefused, ringLine, closeLine, openLine, moveLine, moveLines, openRoom, moveRoom, closeRoom, ringRoom, refusedRoom, openingRoom};
 ghost use Rattle.print.specs.Filled.{filled, filledRoom};
 use moves::Move;
 use moves::Moves;
@@ -12,8 +13,16 @@ use refusals::Refusal;
 use refusals::Verdict;
 use ring::Opening;
 
+// The most bytes of an opening's line, and of a move's.
+const OPEN_ROOM: usize = 67;
+
+const MOVE_ROOM: usize = 46;
+
+// The most bytes of an answer: an opening's line and three move lines.
+pub const OPENING_ROOM: usize = OPEN_ROOM + 3 * MOVE_ROOM;
+
 // The words of a line with a number in place of each `#`, up to four in their order.
-fn put_filled(
+pub fn put_filled(
     out: &mut [u8],
     at: usize,
     words: &[u8],
@@ -36,14 +45,14 @@ fn put_filled(
             b = c;
             c = d;
         } else {
-            next = text::put_byte(out, next, byte);
+            next = buffer::put_byte(out, next, byte);
         }
     }
     next
 }
 
 // The words of a line, with the refusal's number in place of `#`.
-fn put_refusal(out: &mut [u8], at: usize, words: &[u8], refusal: Refusal) -> usize
+pub fn put_refusal(out: &mut [u8], at: usize, words: &[u8], refusal: Refusal) -> usize
     requires { ⌜ at + filledRoom (now words) ≤ length (now out) ⌝ }
     ensures { λ r. ⌜ Printed (filledRoom (now (words .entry))) (now (out .entry)) at (filled (now (words .entry)) (numberOf refusal) 0 0 0) (now (out .exit)) r ⌝ }
 {
@@ -53,8 +62,8 @@ fn put_refusal(out: &mut [u8], at: usize, words: &[u8], refusal: Refusal) -> usi
 
 // The line of a move.
 fn put_move(out: &mut [u8], at: usize, m: Move) -> usize
-    requires { ⌜ at + 46 ≤ length (now out) ⌝ }
-    ensures { λ r. ⌜ Printed 46 (now (out .entry)) at (moveLine m) (now (out .exit)) r ⌝ }
+    requires { ⌜ at + moveRoom ≤ length (now out) ⌝ }
+    ensures { λ r. ⌜ Printed moveRoom (now (out .entry)) at (moveLine m) (now (out .exit)) r ⌝ }
 {
     let from = m.from;
     let to = m.to;
@@ -71,8 +80,8 @@ fn put_move(out: &mut [u8], at: usize, m: Move) -> usize
 
 // The lines of the moves, in their order.
 fn put_moves(out: &mut [u8], at: usize, moves: Moves) -> usize
-    requires { ⌜ at + 138 ≤ length (now out) ⌝ }
-    ensures { λ r. ⌜ Printed 138 (now (out .entry)) at (moveLines (listed moves)) (now (out .exit)) r ⌝ }
+    requires { ⌜ at + 3 * moveRoom ≤ length (now out) ⌝ }
+    ensures { λ r. ⌜ Printed (3 * moveRoom) (now (out .entry)) at (moveLines (listed moves)) (now (out .exit)) r ⌝ }
 {
     let count = moves.count;
     if count == 0 {
@@ -91,8 +100,8 @@ fn put_moves(out: &mut [u8], at: usize, moves: Moves) -> usize
 
 // An opening's line.
 fn put_open_line(out: &mut [u8], at: usize, number: u32, answer: Opening) -> usize
-    requires { ⌜ at + 67 ≤ length (now out) ⌝ }
-    ensures { λ r. ⌜ Printed 67 (now (out .entry)) at (openLine number answer) (now (out .exit)) r ⌝ }
+    requires { ⌜ at + openRoom ≤ length (now out) ⌝ }
+    ensures { λ r. ⌜ Printed openRoom (now (out .entry)) at (openLine number answer) (now (out .exit)) r ⌝ }
 {
     match answer {
         Opening::Taken {
@@ -117,8 +126,8 @@ fn put_open_line(out: &mut [u8], at: usize, number: u32, answer: Opening) -> usi
 
 // An opening's line, and the lines of its moves after it.
 pub fn put_opening(out: &mut [u8], at: usize, number: u32, answer: Opening, moves: Moves) -> usize
-    requires { ⌜ at + 205 ≤ length (now out) ⌝ }
-    ensures { λ r. ⌜ Printed 205 (now (out .entry)) at (openLine number answer ++ moveLines (listed moves)) (now (out .exit)) r ⌝ }
+    requires { ⌜ at + openingRoom ≤ length (now out) ⌝ }
+    ensures { λ r. ⌜ Printed openingRoom (now (out .entry)) at (openLine number answer ++ moveLines (listed moves)) (now (out .exit)) r ⌝ }
 {
     let next = put_open_line(out, at, number, answer);
     put_moves(out, next, moves)
@@ -126,8 +135,8 @@ pub fn put_opening(out: &mut [u8], at: usize, number: u32, answer: Opening, move
 
 // The line of a closing.
 pub fn put_closing(out: &mut [u8], at: usize, number: u32, verdict: Verdict) -> usize
-    requires { ⌜ at + 25 ≤ length (now out) ⌝ }
-    ensures { λ r. ⌜ Printed 25 (now (out .entry)) at (closeLine number verdict) (now (out .exit)) r ⌝ }
+    requires { ⌜ at + closeRoom ≤ length (now out) ⌝ }
+    ensures { λ r. ⌜ Printed closeRoom (now (out .entry)) at (closeLine number verdict) (now (out .exit)) r ⌝ }
 {
     match verdict {
         Verdict::Granted => put_filled(out, at, b"close #\n", number, 0, 0, 0),
@@ -137,8 +146,8 @@ pub fn put_closing(out: &mut [u8], at: usize, number: u32, verdict: Verdict) -> 
 
 // The line of a ring with so many wavelengths.
 pub fn put_ring(out: &mut [u8], at: usize, nodes: u8, wavelengths: u16, verdict: Verdict) -> usize
-    requires { ⌜ at + 39 ≤ length (now out) ⌝ }
-    ensures { λ r. ⌜ Printed 39 (now (out .entry)) at (ringLine nodes wavelengths verdict) (now (out .exit)) r ⌝ }
+    requires { ⌜ at + ringRoom ≤ length (now out) ⌝ }
+    ensures { λ r. ⌜ Printed ringRoom (now (out .entry)) at (ringLine nodes wavelengths verdict) (now (out .exit)) r ⌝ }
 {
     match verdict {
         Verdict::Granted => put_filled(
@@ -156,8 +165,8 @@ pub fn put_ring(out: &mut [u8], at: usize, nodes: u8, wavelengths: u16, verdict:
 
 // The line that answers a refused line.
 pub fn put_line_refused(out: &mut [u8], at: usize) -> usize
-    requires { ⌜ at + 13 ≤ length (now out) ⌝ }
-    ensures { λ r. ⌜ Printed 13 (now (out .entry)) at lineRefused (now (out .exit)) r ⌝ }
+    requires { ⌜ at + refusedRoom ≤ length (now out) ⌝ }
+    ensures { λ r. ⌜ Printed refusedRoom (now (out .entry)) at lineRefused (now (out .exit)) r ⌝ }
 {
-    text::put_text(out, at, b"line refused\n")
+    buffer::put_text(out, at, b"line refused\n")
 }

@@ -1,4 +1,5 @@
 -- 01, "By whom it can be caused": the refusals and their numbers, and the first of several causes. Assumes nothing.
+-- What every call promises of its answer.
 use Prim.Native.Nat.{ℕ}
 use mathlib.Core.Bool.{Bool}
 use mathlib.Core.List.{List, [], _∷_}

@@ -7,17 +7,21 @@ use Rattle.text.specs.Bytes.{bytes}
 use Rattle.text.specs.Number.{number, numberAfter}
 use Rattle.requests.specs.declared.Request.the-variants.{Open, Close}
 use Rattle.requests.specs.declared.Line.{Line}
-use Rattle.requests.specs.Words.{wordsAfter}
+use Rattle.words.specs.Split.{wordsAfter}
 use Rattle.requests.specs.Line.{plainLine, bad, ring, field, portsAfter, parseRing, parseOpen, parseClose, parseWords, parseLine}
+
+-- the request for a circuit
+abbrev opening : ℕ → ℕ → ℕ → ℕ → Line
+opening number source destination remark = plainLine (Open (record { number = number; source = source; destination = destination; remark = remark }))
 
 abbrev cases : List (List ℕ × Line)
 cases =
     (bytes "ring 5 1 1 1 1 1", ring 5 (1 ∷ 1 ∷ 1 ∷ 1 ∷ 1 ∷ []))
-    ∷ (bytes "open 11 1 5 0", plainLine (Open 11 1 5 0))
+    ∷ (bytes "open 11 1 5 0", opening 11 1 5 0)
     ∷ (bytes "close 13", plainLine (Close 13))
     -- leading zeros are allowed, and too wide goes by the value
-    ∷ (bytes "open 00011 01 05 00", plainLine (Open 11 1 5 0))
-    ∷ (bytes "open 4294967295 255 000255 65535", plainLine (Open 4294967295 255 255 65535))
+    ∷ (bytes "open 00011 01 05 00", opening 11 1 5 0)
+    ∷ (bytes "open 4294967295 255 000255 65535", opening 4294967295 255 255 65535)
     ∷ (bytes "open 4294967296 1 5 0", bad)
     ∷ (bytes "open 11 256 5 0", bad)
     ∷ (bytes "open 11 1 00000000256 0", bad)

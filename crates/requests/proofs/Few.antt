@@ -18,8 +18,8 @@ use Rattle.text.proofs.Reading.{number-some}
 use Rattle.requests.specs.declared.Request.{Request}
 use Rattle.requests.specs.declared.Request.the-variants.{Ring, Open, Close, Bad}
 use Rattle.requests.specs.declared.Line.{Line}
-use Rattle.requests.specs.Words.{wordsAfter, words, sameText}
-use Rattle.requests.specs.Line.{bad, given, field, atEnd, portsAfter, parseRing, parseOpen, parseClose, parseWords, parseLine}
+use Rattle.words.specs.Split.{wordsAfter, words, sameText}
+use Rattle.requests.specs.Line.{longestLine, portRoom, bad, given, field, atEnd, portsAfter, parseRing, parseOpen, parseClose, parseWords, parseLine}
 
 -- the bytes that words take, each with a space
 abbrev size : List (List ℕ) → ℕ
@@ -39,7 +39,7 @@ words-size w (x ∷ s) = go (eqb x 32) refl (words-size [] s) (words-size (w ++ 
 -- a ring's ports take at most so many bytes
 abbrev Few : ℕ → Request → Type 0
 Few most (Ring n count) = 2 * count ≤ most
-Few most (Open number source destination remark) = Unit {0}
+Few most (Open circuit) = Unit {0}
 Few most (Close number) = Unit {0}
 Few most Bad = Unit {0}
 
@@ -79,18 +79,18 @@ module _ (most : ℕ) where
       (few-pick (sameText w (bytes "close")) _ _ (few-field 32 ws _ (λ n vs s. few-end vs _ tt)) tt))
 
 -- a line's ports take no more than the line
-few-line : (l : List ℕ) → Few 257 (parseLine l .request)
+few-line : (l : List ℕ) → Few (longestLine + 1) (parseLine l .request)
 unfolding parseLine
-few-line l = go (leb (length l) 256) refl
+few-line l = go (leb (length l) longestLine) refl
   where
-    go : (t : Bool) → leb (length l) 256 ≡ t → Few 257 (pick t (parseWords (words l)) bad .request)
+    go : (t : Bool) → leb (length l) longestLine ≡ t → Few (longestLine + 1) (pick t (parseWords (words l)) bad .request)
     go false e = tt
-    go true e = few-words 257 (words l) (omega (arith, words-size [] l, leb-true (length l) 256 e))
+    go true e = few-words (longestLine + 1) (words l) (omega (arith, words-size [] l, leb-true (length l) longestLine e))
 
 -- what a caller that lends the ports of a parsed line has to show: there are as many as the request counts
-module _ (l : List ℕ) (r : Line) (n count : ℕ) (e : r ≡ parseLine l) (k : r .request ≡ Ring n count) (h : length (r .ports) ≡ 128) where
+module _ (l : List ℕ) (r : Line) (n count : ℕ) (e : r ≡ parseLine l) (k : r .request ≡ Ring n count) (h : length (r .ports) ≡ portRoom) where
   pub ports-within : count ≤ length (r .ports)
-  ports-within = let few : Few 257 (Ring n count) = rw (← e, k) at (few-line l) in omega arith
+  ports-within = let few : Few (longestLine + 1) (Ring n count) = rw (← e, k) at (few-line l) in omega arith
 
   pub ports-counted : count ≡ length (take count (r .ports))
   ports-counted = lent-counted (r .ports) count ports-within

@@ -1,7 +1,6 @@
--- The laws of words and fields, of a line's port counts, and document 01's lines.
-pub mod Words
+-- The laws of a line by its first word, its fields and its port counts, and document 01's lines.
 pub mod Fields
 pub mod Ports
-pub mod Whole
+pub mod FirstWord
 pub mod Few
 pub mod Cases

@@ -1,31 +1,32 @@
 -- The ports of a ring, one for each word up to the line's end. Assumes nothing.
 use mathlib.Core.Path.{_≡_, refl, sym, _∙_}
 use mathlib.Core.List.{List, [], _∷_, _++_}
-use Prim.Native.Nat.{ℕ, suc, _+_, _-_, _*_, _≤_, _<_}
+use Prim.Native.Nat.{ℕ, suc, _+_, _-_, _*_, _^_, _≤_, _<_}
 use native.Mathlib.Omega.{arith}
 use lib.ListN.{length, drop, set, replicate, length-append, drop-of-length-le}
 use lib.Seq.{set-at, append-snoc}
 use Rattle.requests.specs.declared.Request.the-variants.{Ring}
 use Rattle.requests.specs.declared.Line.{Line}
-use Rattle.requests.specs.declared.word.Field.{Field}
-use Rattle.requests.specs.declared.word.Field.the-variants.{Read, Unread}
-use Rattle.requests.specs.Words.{otherWords}
-use Rattle.requests.specs.Line.{bad, portsAfter, parseRing}
-use Rattle.requests.specs.Field.{Next, FieldAt}
-use Rattle.requests.proofs.Words.{words-next}
-use Rattle.requests.proofs.Fields.{read-next, read-small, field-read}
+use Rattle.words.specs.declared.Field.{Field}
+use Rattle.words.specs.declared.Field.the-variants.{Read, Unread}
+use Rattle.words.specs.Split.{otherWords}
+use Rattle.requests.specs.Line.{longestLine, portRoom, bad, portsAfter, parseRing}
+use Rattle.words.specs.Field.{Next, FieldAt}
+use Rattle.words.proofs.Split.{words-next}
+use Rattle.words.proofs.Fields.{read-next, read-small}
+use Rattle.requests.proofs.Fields.{field-read}
 
 -- of a ring of n nodes count ports are read, up to position i
 pub record Porting (b : List ℕ) (at n : ℕ) (ports : List ℕ) (count i : ℕ) : Type 0 where
   pub ks : List ℕ
   pub is : parseRing (otherWords (drop at b)) ≡ portsAfter n ks (otherWords (drop i b))
   pub counted : length ks ≡ count
-  pub stand : ports ≡ ks ++ replicate (128 - count) 0
-  pub short : length b ≤ 256
+  pub stand : ports ≡ ks ++ replicate (portRoom - count) 0
+  pub short : length b ≤ longestLine
   pub room : 2 * count ≤ i
 
 -- after the nodes there are none yet
-pub ports-start : (b : List ℕ) (at : ℕ) (r : Field) (n i : ℕ) → FieldAt 256 b at r → r ≡ Read n i → length b ≤ 256 → Porting b at n (replicate 128 0) 0 i
+pub ports-start : (b : List ℕ) (at : ℕ) (r : Field) (n i : ℕ) → FieldAt (2 ^ 8) b at r → r ≡ Read n i → length b ≤ longestLine → Porting b at n (replicate portRoom 0) 0 i
 unfolding parseRing
 ports-start b at r n i h k s =
     record { ks = []; is = sym (field-read 8 b at r h (λ n ws. portsAfter n [] ws) _ n i k refl); counted = refl; stand = refl; short = s; room = omega arith }
@@ -36,17 +37,17 @@ module _ (b : List ℕ) (at n : ℕ) (ports : List ℕ) (count i : ℕ) (q : Por
   ports-end h = sym (q .is ∙ rw (drop-of-length-le b h, q .counted, ← q .stand))
 
   module _ (h : i < length b) where
-    pub ports-room : count < 128
+    pub ports-room : count < portRoom
     ports-room = omega (arith, q .room, q .short)
 
-    module _ (r : Field) (k : FieldAt 256 b i r) where
+    module _ (r : Field) (k : FieldAt (2 ^ 8) b i r) where
       pub no-port : (x : Line) → r ≡ Unread → x ≡ bad → x ≡ parseRing (otherWords (drop at b))
       unfolding portsAfter
       no-port x u e = e ∙ sym (q .is ∙ rw (words-next b i h, (rw u at k) _ _ (words-next b i h)))
 
       module _ (p end : ℕ) (e : r ≡ Read p end) where
-        here : Next 256 b i p end
-        here = read-next 256 b i r k p end e
+        here : Next (2 ^ 8) b i p end
+        here = read-next (2 ^ 8) b i r k p end e
 
         pub ports-less : length b - end < length b - i
         ports-less = omega (arith, here .ahead, here .within)
@@ -54,7 +55,7 @@ module _ (b : List ℕ) (at n : ℕ) (ports : List ℕ) (count i : ℕ) (q : Por
         pub ports-next : Porting b at n (set ports count p) (count + 1) end
         unfolding portsAfter
         ports-next =
-            let m : 128 - count ≡ suc (128 - (count + 1)) = omega (arith, ports-room) in
+            let m : portRoom - count ≡ suc (portRoom - (count + 1)) = omega (arith, ports-room) in
             record {
               ks = q .ks ++ (p ∷ []);
               is = q .is ∙ rw (here .is, here .value);

@@ -1,4 +1,2 @@
--- The words of a line, what it asks for, and reading its next word.
-pub mod Words
+-- What a line asks for.
 pub mod Line
-pub mod Field

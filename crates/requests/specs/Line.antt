@@ -1,5 +1,6 @@
 -- What one line of a script asks for: document 01, "The script program and its cases". Assumes nothing.
-use Prim.Native.Nat.{ℕ, _-_, _^_}
+-- What `parse_line` promises.
+use Prim.Native.Nat.{ℕ, _-_, _/_, _^_}
 use mathlib.Core.List.{List, [], _∷_, _++_}
 use lib.Dec.{leb}
 use lib.ListN.{length, replicate}
@@ -11,11 +12,19 @@ use Rattle.text.specs.Number.{number}
 use Rattle.requests.specs.declared.Request.{Request}
 use Rattle.requests.specs.declared.Request.the-variants.{Ring, Open, Close, Bad}
 use Rattle.requests.specs.declared.Line.{Line}
-use Rattle.requests.specs.Words.{words, sameText}
+use Rattle.words.specs.Split.{words, sameText}
+
+-- "lines to 256 bytes without the line end"
+abbrev pub longestLine : ℕ
+longestLine = 256
+
+-- the most ports that such a line has room for: each takes a space and a digit
+abbrev pub portRoom : ℕ
+portRoom = longestLine / 2
 
 -- a request with no ports beside it
 abbrev pub plainLine : Request → Line
-plainLine request = record { request = request; ports = replicate 128 0 }
+plainLine request = record { request = request; ports = replicate portRoom 0 }
 
 -- "anything else"
 abbrev pub bad : Line
@@ -23,7 +32,7 @@ bad = plainLine Bad
 
 -- a ring of n nodes with the ports ks: the request has their count, and zeros stand after them
 abbrev pub ring : ℕ → List ℕ → Line
-ring n ks = record { request = Ring n (length ks); ports = ks ++ replicate (128 - length ks) 0 }
+ring n ks = record { request = Ring n (length ks); ports = ks ++ replicate (portRoom - length ks) 0 }
 
 -- what follows from the number that a word is
 abbrev pub given : Number → (ℕ → Line) → Line
@@ -56,7 +65,7 @@ parseOpen ws =
     field 8 ws (λ source ws.
     field 8 ws (λ destination ws.
     field 16 ws (λ remark ws.
-    atEnd ws (plainLine (Open number source destination remark))))))
+    atEnd ws (plainLine (Open (record { number = number; source = source; destination = destination; remark = remark })))))))
 
 -- "`close number`"
 unfoldable pub parseClose : List (List ℕ) → Line
@@ -71,6 +80,6 @@ parseWords (w ∷ ws) =
     (pick (sameText w (bytes "close")) (parseClose ws)
     bad))
 
--- "lines to 256 bytes without the line end"
+-- a line by its bytes: one that is too long is bad
 unfoldable pub parseLine : List ℕ → Line
-parseLine l = pick (leb (length l) 256) (parseWords (words l)) bad
+parseLine l = pick (leb (length l) longestLine) (parseWords (words l)) bad

@@ -1,35 +1,33 @@
 // One line of a script, parsed into a request.
-mod word;
-
 ghost use mathlib.Core.Path.{_≡_};
 ghost use Prim.Native.Nat.{_≤_};
 ghost use lib.ListN.{length, drop};
-ghost use Rattle.requests.specs.Words.{otherWords};
-ghost use Rattle.requests.specs.Line.{plainLine, atEnd, parseRing, parseOpen, parseClose, parseLine};
-use word::Field;
+ghost use Rattle.words.specs.Split.{otherWords};
+ghost use Rattle.requests.specs.Line.{longestLine, plainLine, atEnd, parseRing, parseOpen, parseClose, parseLine};
+use lightpath::Circuit;
+use words::Field;
+use words::MOST_U8;
+use words::MOST_U16;
+use words::MOST_U32;
+
+// The longest line, in bytes without its line end.
+pub const LONGEST_LINE: usize = 256;
+
+// The most ports that a line has room for: each takes a space and a digit.
+pub const PORT_ROOM: usize = LONGEST_LINE / 2;
 
 // What a line asks for. A ring counts its ports, which stand beside it in the line.
 pub enum Request {
-    Ring {
-        nodes: u8,
-        count: usize,
-    },
-    Open {
-        number: u32,
-        source: u8,
-        destination: u8,
-        remark: u16,
-    },
-    Close {
-        number: u32,
-    },
+    Ring { nodes: u8, count: usize },
+    Open { circuit: Circuit },
+    Close { number: u32 },
     Bad,
 }
 
 // A parsed line: the request, and a ring's ports with zeros after them.
 pub struct Line {
     pub request: Request,
-    pub ports: [u8; 128],
+    pub ports: [u8; PORT_ROOM],
 }
 
 // A line that asks for no ring.
@@ -38,7 +36,7 @@ fn plain(request: Request) -> Line
 {
     Line {
         request,
-        ports: [0; 128],
+        ports: [0; PORT_ROOM],
     }
 }
 
@@ -54,28 +52,26 @@ fn at_end(line: &[u8], at: usize, request: Request) -> Line
 
 // `ring N k..`, after its first word.
 fn parse_ring(line: &[u8], at: usize) -> Line
-    requires { ⌜ length (now line) ≤ 256 ⌝ }
+    requires { ⌜ length (now line) ≤ longestLine ⌝ }
     ensures { λ r. ⌜ r ≡ parseRing (otherWords (drop at (now (line .entry)))) ⌝ }
 {
-    let Field::Read(nodes, start) = word::read_field(line, at, 255) else {
+    let Field::Read(nodes, start) = words::read_field(line, at, MOST_U8) else {
         return plain(Request::Bad);
     };
-    let mut ports = [0u8; 128];
+    let mut ports = [0u8; PORT_ROOM];
     let mut count: usize = 0;
     let mut next = start;
     while next < line.len() {
-        let Field::Read(port, end) = word::read_field(line, next, 255) else {
+        let Field::Read(port, end) = words::read_field(line, next, MOST_U8) else {
             return plain(Request::Bad);
         };
         ports[count] = port as u8;
         count += 1;
         next = end;
     }
+    let nodes = nodes as u8;
     Line {
-        request: Request::Ring {
-            nodes: nodes as u8,
-            count,
-        },
+        request: Request::Ring { nodes, count },
         ports,
     }
 }
@@ -84,37 +80,39 @@ fn parse_ring(line: &[u8], at: usize) -> Line
 fn parse_open(line: &[u8], at: usize) -> Line
     ensures { λ r. ⌜ r ≡ parseOpen (otherWords (drop at (now (line .entry)))) ⌝ }
 {
-    let Field::Read(number, a) = word::read_field(line, at, 4294967295) else {
+    let Field::Read(number, a) = words::read_field(line, at, MOST_U32) else {
         return plain(Request::Bad);
     };
-    let Field::Read(source, b) = word::read_field(line, a, 255) else {
+    let Field::Read(source, b) = words::read_field(line, a, MOST_U8) else {
         return plain(Request::Bad);
     };
-    let Field::Read(destination, c) = word::read_field(line, b, 255) else {
+    let Field::Read(destination, c) = words::read_field(line, b, MOST_U8) else {
         return plain(Request::Bad);
     };
-    let Field::Read(remark, end) = word::read_field(line, c, 65535) else {
+    let Field::Read(remark, end) = words::read_field(line, c, MOST_U16) else {
         return plain(Request::Bad);
     };
-    at_end(
-        line,
-        end,
-        Request::Open {
-            number,
-            source: source as u8,
-            destination: destination as u8,
-            remark: remark as u16,
-        },
-    )
+    let number = number as u32;
+    let source = source as u8;
+    let destination = destination as u8;
+    let remark = remark as u16;
+    let circuit = Circuit {
+        number,
+        source,
+        destination,
+        remark,
+    };
+    at_end(line, end, Request::Open { circuit })
 }
 
 // `close number`, after its first word.
 fn parse_close(line: &[u8], at: usize) -> Line
     ensures { λ r. ⌜ r ≡ parseClose (otherWords (drop at (now (line .entry)))) ⌝ }
 {
-    let Field::Read(number, end) = word::read_field(line, at, 4294967295) else {
+    let Field::Read(number, end) = words::read_field(line, at, MOST_U32) else {
         return plain(Request::Bad);
     };
+    let number = number as u32;
     at_end(line, end, Request::Close { number })
 }
 
@@ -122,18 +120,18 @@ fn parse_close(line: &[u8], at: usize) -> Line
 pub fn parse_line(line: &[u8]) -> Line
     ensures { λ r. ⌜ r ≡ parseLine (now (line .entry)) ⌝ }
 {
-    if 256 < line.len() {
+    if LONGEST_LINE < line.len() {
         return plain(Request::Bad);
     }
-    let end = word::word_end(line, 0);
+    let end = words::word_end(line, 0);
     let first = &line[..end];
-    if word::same_text(first, b"ring") {
+    if words::same_text(first, b"ring") {
         return parse_ring(line, end);
     }
-    if word::same_text(first, b"open") {
+    if words::same_text(first, b"open") {
         return parse_open(line, end);
     }
-    if word::same_text(first, b"close") {
+    if words::same_text(first, b"close") {
         return parse_close(line, end);
     }
     plain(Request::Bad)

@@ -1,56 +1,31 @@
 -- Demand 3's own list of reasons agrees with the causes of a refusal, and a request that none of them meets is one that the ports permit.
 -- Assumes nothing.
-use Prim.Native.Nat.{_≤_, _<_}
-use mathlib.Core.Path.{_≡_, refl, sym, ap}
-use mathlib.Core.Bool.{Bool, true, false, _&&_, _||_, not, true≢false}
+use Prim.Native.Nat.{ℕ}
+use mathlib.Core.Path.{_≡_, refl, ap}
+use mathlib.Core.Bool.{Bool, true, false, _&&_, _||_, not}
 use mathlib.Core.List.{List, [], _∷_}
 use native.Mathlib.Omega.{arith}
-use lib.Dec.{leb, ltb}
-use lib.ListN.{length}
+use lib.Dec.{leb}
 use borrow.Author.Tests.{lt-ltb, le-ltb, ltb-true, ltb-false, not-false, eq-eqb, ne-eqb}
 use Rattle.basis.specs.Choice.{pick}
 use Rattle.basis.specs.Count.{All}
 use Rattle.basis.proofs.Branch.{pick-true, pick-false, said, not-said}
-use Rattle.basis.proofs.Bools.{and-both, or-false, not-leb, not-ltb}
+use Rattle.basis.proofs.Bools.{and-both, not-leb, not-ltb}
 use Rattle.lightpath.specs.Circuit.{onRing}
 use Rattle.lightpath.specs.declared.Circuit.{Circuit}
-use Rattle.channels.specs.Channels.{circuits, numbered, live}
-use Rattle.moves.specs.declared.Move.{Move}
+use Rattle.channels.specs.Channels.{circuits, numbered}
 use Rattle.ports.specs.Ports.{portsAt}
-use Rattle.ports_used.specs.PortsUsed.{sends, receives, freeTransmitter, freeReceiver}
+use Rattle.ports_used.specs.PortsUsed.{sends, receives}
 use Rattle.rules.proofs.Allowable.{Allowable}
-use Rattle.survey.specs.declared.Survey.{Survey}
-use Rattle.refusals.specs.Refusal.{numberOf, Cause, judged}
-use Rattle.refusals.specs.declared.Refusal.{Refusal}
+use Rattle.refusals.specs.Refusal.{Cause, judged}
 use Rattle.refusals.specs.declared.Verdict.the-variants.{Granted as granted, Refused as refused}
 use Rattle.ring.specs.Table.{RingTable}
-use Rattle.ring.specs.Opening.{surveyed, requestCauses, openCauses}
-use Rattle.ring.specs.Demand3.{Reason, reasons, someGiven, firstNumber}
-
--- tests of what was seen are tests of the table
-module _ (t : RingTable) (c : Circuit) (v : Survey) (e : v ≡ surveyed t c) where
-  pub seen-live : 0 < v .numbered → live (t .channels) (c .number) ≡ true
-  seen-live h = lt-ltb 0 (numbered (c .number) (circuits (t .channels))) (rw e at h)
-
-  pub seen-dead : v .numbered ≤ 0 → live (t .channels) (c .number) ≡ false
-  seen-dead h = le-ltb 0 (numbered (c .number) (circuits (t .channels))) (rw e at h)
-
-  pub seen-sends : (r : Bool) → r ≡ ltb (v .sent) (portsAt (t .ports) (c .source)) → r ≡ freeTransmitter (t .ports) (t .channels) (c .source)
-  seen-sends r h = rw e at h
-
-  pub seen-receives : (r : Bool) → r ≡ ltb (v .received) (portsAt (t .ports) (c .destination))
-      → r ≡ freeReceiver (t .ports) (t .channels) (c .destination)
-  seen-receives r h = rw e at h
+use Rattle.ring.specs.Opening.{requestCauses, openCauses}
+use Rattle.refusals.proofs.Reasons.{Agree}
+use Rattle.ring.specs.Demand3.{reasons}
 
 -- for `search verdict`: a verdict from the tests that the code made
-pub ruleset verdict = (pick-true, pick-false, said, not-said, eq-eqb, ne-eqb, seen-live, seen-dead, seen-sends, seen-receives)
-
--- one by one a cause holds where its reason is given, and has its number
-abbrev Agree : List Cause → List Reason → Type 0
-Agree [] [] = Unit {0}
-Agree [] (y ∷ ys) = ⊥
-Agree (x ∷ xs) [] = ⊥
-Agree (x ∷ xs) (y ∷ ys) = (x .holds ≡ y .given) × (numberOf (x .refusal) ≡ y .number) × Agree xs ys
+pub ruleset verdict = (pick-true, pick-false, said, not-said, lt-ltb, le-ltb, eq-eqb, ne-eqb)
 
 -- a node off the ring, by each of its two bounds
 off-ring : (a b c d : Bool) → not ((a && b) && (c && d)) ≡ (not a || not b || not c || not d)
@@ -60,8 +35,8 @@ off-ring true false c d = refl
 off-ring false b c d = refl
 
 -- so it is with an opening's causes
-pub agree : (t : RingTable) (c : Circuit) (lent : List Move) → Agree (openCauses t c (length lent)) (reasons t c lent)
-agree t c lent = (
+pub agree : (t : RingTable) (c : Circuit) (n : ℕ) → Agree (openCauses t c n) (reasons t c n)
+agree t c n = (
   refl,
   refl,
   (
@@ -111,23 +86,3 @@ allowable t c e =
       sender = ltb-true _ _ (not-false _ (h .1 .1 .1 .0));
       receiver = ltb-true _ _ (not-false _ (h .1 .1 .1 .1 .0));
     }
-
--- where no reason is given the request is granted
-pub none-given : (xs : List Cause) (ys : List Reason) → Agree xs ys → someGiven ys ≡ false → judged xs ≡ granted
-none-given [] [] a h = refl
-none-given [] (y ∷ ys) a h = absurd a
-none-given (x ∷ xs) [] a h = absurd a
-none-given (x ∷ xs) (y ∷ ys) a h = let k = or-false (y .given) (someGiven ys) h in rw (a .0, k .0) (none-given xs ys (a .2) (k .1))
-
--- where one is, it is refused by the number of the first
-pub some-given : (xs : List Cause) (ys : List Reason) → Agree xs ys → someGiven ys ≡ true
-    → (r : Refusal) × (judged xs ≡ refused r) × (numberOf r ≡ firstNumber ys)
-some-given [] [] a h = absurd (true≢false (sym h))
-some-given [] (y ∷ ys) a h = absurd a
-some-given (x ∷ xs) [] a h = absurd a
-some-given (x ∷ xs) (y ∷ ys) a h = go (y .given) refl (λ k. some-given xs ys (a .2) k)
-  where
-    go : (o : Bool) → y .given ≡ o → (someGiven ys ≡ true → (r : Refusal) × (judged xs ≡ refused r) × (numberOf r ≡ firstNumber ys))
-        → (r : Refusal) × (judged (x ∷ xs) ≡ refused r) × (numberOf r ≡ firstNumber (y ∷ ys))
-    go true e rest = rw (a .0, e) (x .refusal, refl, a .1)
-    go false e rest = rw (a .0, e) (rest (rw e at h))

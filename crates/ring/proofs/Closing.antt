@@ -9,7 +9,7 @@ use lib.Dec.{ltb}
 use borrow.Author.Tests.{not-true, lt-ltb, le-ltb}
 use Rattle.channels.specs.Channels.{Channels, at, live, whereIs, circuitOf}
 use Rattle.channels.proofs.Numbers.{live-where}
-use Rattle.steps.specs.Closing.{closed}
+use Rattle.channels.specs.Closing.{closed}
 use Rattle.steps.specs.Kept.{Kept}
 use Rattle.steps.proofs.Closing.{closes, close-there}
 use Rattle.refusals.specs.declared.Refusal.the-variants.{NotLive, BrokenRule}

@@ -1,11 +1,11 @@
--- The laws of the ring table: what the ring rules say of it, what is refused, demand 3, and that making, opening and closing keep the
--- rules; and the lending of a local array, and of a list that was lent.
+-- The laws of the ring table: what the ring rules say of it, what is refused, the answers in numbers, demand 3, and that making, opening
+-- and closing keep the rules; and the handing on of a list that was lent.
 pub mod TableRules
 pub mod Causes
 pub mod Served
+pub mod Numbers
 pub mod Demand
 pub mod Closing
 pub mod Making
 pub mod Fields
-pub mod LocalArray
 mod Lending

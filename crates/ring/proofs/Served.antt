@@ -2,40 +2,47 @@
 -- 8,256. Assumes nothing.
 use Prim.Native.Nat.{ℕ, _≤_, _<_}
 use mathlib.Core.Path.{_≡_, refl, sym, ap, _∙_}
-use mathlib.Core.Bool.{Bool, true, not}
-use mathlib.Core.List.{[], _∷_}
+use mathlib.Core.Bool.{Bool, true, false, not}
+use mathlib.Core.List.{List, [], _∷_, _++_}
 use native.Mathlib.Omega.{arith}
 use lib.Dec.{ltb}
 use lib.ListN.{getD}
 use borrow.Author.Tests.{not-true}
-use Rattle.basis.proofs.Bools.{and-left, and-right}
+use Rattle.basis.specs.Choice.{pick}
 use Rattle.lightpath.specs.declared.Circuit.{Circuit}
-use Rattle.moves.specs.Records.{listed}
-use Rattle.ports.specs.Ports.{limitOf}
-use Rattle.rules.specs.Rules.{unlitFrom}
+use Rattle.channels.specs.Channels.{Channels}
+use Rattle.channels.specs.Change.{puts, inOrder}
+use Rattle.ports.specs.Ports.{limitOf, portsAt}
 use Rattle.rules.proofs.Allowable.{Allowable}
-use Rattle.steps.specs.Steps.{Ready}
+use Rattle.steps.specs.Plan.{Plan}
+use Rattle.steps.specs.Steps.{planOf, Ready}
 use Rattle.steps.specs.Kept.{Served}
 use Rattle.steps.proofs.Step3.{ready}
+use Rattle.steps.proofs.Steps.{plan-serves}
+use Rattle.steps.proofs.Looks.{plan-looks}
 use Rattle.survey.specs.Survey.{surveyOf}
 use Rattle.survey.specs.declared.Survey.{Survey}
-use Rattle.plan.specs.Assigned.{assignedOf}
-use Rattle.plan.specs.declared.Assigned.{Assigned}
-use Rattle.plan.proofs.ByValue.{assigned-serves, assigned-looks}
-use Rattle.refusals.specs.Refusal.{_if_, judged}
-use Rattle.refusals.specs.declared.Refusal.the-variants.{ShortList, BrokenRule}
+use Rattle.plan.specs.Planned.{Plans}
+use Rattle.plan.specs.declared.Planned.{Planned}
+use Rattle.plan.proofs.ByValue.{planned-changes, planned-count}
+use Rattle.refusals.specs.Refusal.{Cause, _if_, judged}
+use Rattle.refusals.specs.declared.Refusal.{Refusal}
+use Rattle.refusals.specs.declared.Refusal.the-variants.{NumberLive, NoTransmitter, NoReceiver, ShortList, BrokenRule}
 use Rattle.refusals.specs.declared.Verdict.{Verdict}
 use Rattle.refusals.specs.declared.Verdict.the-variants.{Granted as granted, Refused as refused}
 use Rattle.refusals.specs.Answer.{Answer}
-use Rattle.ring.specs.Table.{RingTable, meetsRules}
-use Rattle.ring.specs.Opening.{Decision, surveyed, requestCauses, openCauses, served, refusing, decidedBy, decideOf}
+use Rattle.ring.specs.Table.{RingTable, meetsRules, withChannels}
+use Rattle.ring.specs.Opening.{Decision, taken, namedCauses, usedCauses, requestCauses, openCauses, served, refusing, decidedBy, decideOf}
 use Rattle.ring.specs.Answer.{openingAnswer}
 use Rattle.ring.proofs.TableRules.{table-rules, table-limits}
 use Rattle.ring.proofs.Causes.{granted-rest, allowable}
 
--- the answer of the steps for a request
-abbrev pub assigned : RingTable → Circuit → Assigned
-assigned t c = assignedOf (t .nodes) (limitOf (t .ports)) (t .channels) c
+-- the plan of the steps for a request, and the places after it
+abbrev pub planned : RingTable → Circuit → Plan
+planned t c = planOf (t .nodes) (limitOf (t .ports)) (t .channels) c
+
+abbrev pub after : RingTable → Circuit → Channels
+after t c = puts (planned t c .changes) (t .channels)
 
 -- a table that was found to break a rule is met by 22
 pub decide-unmet : (t : RingTable) (c : Circuit) (n : ℕ) (r : Bool) (d : Decision) → r ≡ meetsRules t → not r ≡ true
@@ -43,10 +50,32 @@ pub decide-unmet : (t : RingTable) (c : Circuit) (n : ℕ) (r : Bool) (d : Decis
 unfolding decideOf
 decide-unmet t c n r d e h k = rw (← e, not-true r h) k
 
--- what the steps gave below the limit is served
-pub served-by : (t : RingTable) (c : Circuit) (m : ℕ) (a : Assigned) (d : Decision) → a ≡ assignedOf (t .nodes) m (t .channels) c
-    → m ≡ limitOf (t .ports) → d ≡ served t a → d ≡ served t (assigned t c)
-served-by t c m a d e l k = k ∙ ap (served t) (rw (e, l))
+-- a plan by value, below the limit, is carried out
+pub served-by : (t : RingTable) (c : Circuit) (m : ℕ) (p : Planned) (chs : Channels) → Plans (planOf (t .nodes) m (t .channels) c) p
+    → chs ≡ puts (inOrder (p .changes)) (t .channels) → m ≡ limitOf (t .ports)
+    → record { opened = record { table = withChannels t chs; answer = taken (p .place) (p .moves .count) (p .looks) }; moves = p .moves } ≡ served t (planned t c)
+served-by t c m p chs e f l =
+    rw (← l, f, planned-changes (t .nodes) m (t .channels) c p (e .is), ← planned-count (t .nodes) m (t .channels) c p (e .is), e .is)
+
+-- causes that none of a list holds leave those after them to judge
+judged-past : (xs ys : List Cause) → judged xs ≡ granted → judged (xs ++ ys) ≡ judged ys
+judged-past [] ys e = refl
+judged-past (x ∷ xs) ys e = go (x .holds) e (λ k. judged-past xs ys k)
+  where
+    go : (o : Bool) → pick o (refused (x .refusal)) (judged xs) ≡ granted → (judged xs ≡ granted → judged (xs ++ ys) ≡ judged ys)
+        → pick o (refused (x .refusal)) (judged (xs ++ ys)) ≡ judged ys
+    go true e rest = cc
+    go false e rest = rest e
+
+-- and one that holds is named, whatever comes after
+judged-stop : (xs ys : List Cause) (r : Refusal) → judged xs ≡ refused r → judged (xs ++ ys) ≡ refused r
+judged-stop [] ys r e = cc
+judged-stop (x ∷ xs) ys r e = go (x .holds) e (λ k. judged-stop xs ys r k)
+  where
+    go : (o : Bool) → pick o (refused (x .refusal)) (judged xs) ≡ refused r → (judged xs ≡ refused r → judged (xs ++ ys) ≡ refused r)
+        → pick o (refused (x .refusal)) (judged (xs ++ ys)) ≡ refused r
+    go true e rest = e
+    go false e rest = rest e
 
 module _ (t : RingTable) (c : Circuit) (n : ℕ) (rules : meetsRules t ≡ true) where
   -- 22 does not come up
@@ -54,32 +83,30 @@ module _ (t : RingTable) (c : Circuit) (n : ℕ) (rules : meetsRules t ≡ true)
   unfolding decideOf
   decided v e = rw (rules, e)
 
-  -- the answer goes by the verdict that was found
-  pub decide-by : (v w : Verdict) (d : Decision) → v ≡ judged (openCauses t c n) → v ≡ w → d ≡ decidedBy t c w → d ≡ decideOf t c n
-  decide-by v w d e h k = k ∙ sym (decided w (sym e ∙ h))
+  -- the short list and the nodes named are judged before what is in use
+  abbrev named : List Cause
+  named = (ShortList if ltb n 3) ∷ namedCauses (t .nodes) c
 
-  -- its places can be surveyed below the limit
-  pub open-survey : (m : ℕ) → m ≡ limitOf (t .ports) → (0 < t .nodes) × (m ≤ 128) × (unlitFrom m (t .channels) ≡ true)
-  open-survey m e =
-      let hold = table-limits t rules in
-      rw e (omega (arith, hold .three), hold .below, search (and-left, and-right) depth 8)
+  -- a request that they meet is refused
+  pub decide-refused : (v : Verdict) (r : Refusal) (d : Decision) → v ≡ judged named → v ≡ refused r → d ≡ refusing t r → d ≡ decideOf t c n
+  decide-refused v r d e h k = k ∙ sym (decided (refused r) (judged-stop named (usedCauses t c) r (sym e ∙ h)))
 
-  -- and say what they say below it
-  pub open-seen : (m : ℕ) (v : Survey) → m ≡ limitOf (t .ports) → v ≡ surveyOf (t .nodes) m (t .channels) c → v ≡ surveyed t c
-  open-seen m v e h = rw e at h
+  -- and any other goes by what is in use
+  pub decide-granted : (v : Verdict) (d : Decision) → v ≡ judged named → v ≡ granted → d ≡ decidedBy t c (judged (usedCauses t c)) → d ≡ decideOf t c n
+  decide-granted v d e h k = k ∙ sym (decided (judged (usedCauses t c)) (judged-past named (usedCauses t c) (sym e ∙ h)))
 
   -- a request that no cause meets is one that the ports permit
   permits : judged (openCauses t c n) ≡ granted → Allowable (t .nodes) (t .ports) (t .channels) c
   permits e = allowable t c (granted-rest (ShortList if ltb n 3) (requestCauses t c) e)
 
-  -- the table is ready for its steps
-  pub open-ready : (v : Verdict) (m : ℕ) → v ≡ judged (openCauses t c n) → v ≡ granted → m ≡ limitOf (t .ports) → Ready (t .nodes) m (t .channels) c
-  open-ready v m e h l = rw l (ready (t .nodes) (t .ports) (t .channels) c (table-rules t rules) (permits (sym e ∙ h)))
+  -- so the table is ready for its steps
+  open-ready : judged (openCauses t c n) ≡ granted → Ready (t .nodes) (limitOf (t .ports)) (t .channels) c
+  open-ready e = ready (t .nodes) (t .ports) (t .channels) c (table-rules t rules) (permits e)
 
   -- and they serve it
   pub serves : judged (openCauses t c n) ≡ granted
-      → Served (t .nodes) (t .ports) (t .channels) c (assigned t c .channels) (assigned t c .place .0) (listed (assigned t c .moves))
-  serves e = assigned-serves (t .nodes) (t .ports) (t .channels) c (table-rules t rules) (permits e)
+      → Served (t .nodes) (t .ports) (t .channels) c (after t c) (planned t c .taken) (planned t c .moves)
+  serves e = plan-serves (t .nodes) (t .ports) (t .channels) c (table-rules t rules) (permits e)
 
   -- whatever the answer, the table after it meets the ring rules
   pub open-rules : meetsRules (decideOf t c n .opened .table) ≡ true
@@ -98,5 +125,45 @@ module _ (t : RingTable) (c : Circuit) (n : ℕ) (rules : meetsRules t ≡ true)
       third v e = ap (λ (a : Answer). getD (a .values) 2 0) (rw (decided v e) at h)
 
       go : (v : Verdict) → judged (openCauses t c n) ≡ v → looks ≤ 8256
-      go granted e = rw (← third granted e) (assigned-looks (t .nodes) (limitOf (t .ports)) (t .channels) c (open-ready granted (limitOf (t .ports)) (sym e) refl refl))
+      go granted e = rw (← third granted e) (plan-looks (t .nodes) (limitOf (t .ports)) (t .channels) c (open-ready e))
       go (refused r) e = omega (arith, third (refused r) e)
+
+-- what a request names is in order where the first causes do not meet it
+pub named-granted : (N : ℕ) (c : Circuit) (n : ℕ) (v : Verdict) → v ≡ judged ((ShortList if ltb n 3) ∷ namedCauses N c) → v ≡ granted
+    → judged (namedCauses N c) ≡ granted
+named-granted N c n v e h = granted-rest (ShortList if ltb n 3) (namedCauses N c) (sym e ∙ h)
+
+-- a request that names two nodes of the ring, by the survey v of the places below the limit m
+module _ (t : RingTable) (c : Circuit) (rules : meetsRules t ≡ true) (m : ℕ) (limit : m ≡ limitOf (t .ports)) where
+  -- the places can be surveyed
+  pub survey-some : 0 < t .nodes
+  survey-some = omega (arith, table-limits t rules .three)
+
+  pub survey-low : m ≤ 128
+  survey-low = omega (arith, limit, table-limits t rules .below)
+
+  module _ (v : Survey) (seen : v ≡ surveyOf (t .nodes) m (t .channels) c) (w : Verdict)
+      (is : w ≡ judged (
+      (NumberLive if ltb 0 (v .numbered))
+      ∷ (NoTransmitter if not (ltb (v .sent) (portsAt (t .ports) (c .source))))
+      ∷ (NoReceiver if not (ltb (v .received) (portsAt (t .ports) (c .destination))))
+      ∷ []
+      )) where
+    -- what was seen judges as what is in use does
+    in-use : w ≡ judged (usedCauses t c)
+    in-use = rw seen at is
+
+    pub used-refused : (r : Refusal) (d : Decision) → w ≡ refused r → d ≡ refusing t r → d ≡ decidedBy t c (judged (usedCauses t c))
+    used-refused r d h k = rw (← in-use, h) k
+
+    pub used-granted : (d : Decision) → w ≡ granted → d ≡ served t (planned t c) → d ≡ decidedBy t c (judged (usedCauses t c))
+    used-granted d h k = rw (← in-use, h) k
+
+    -- one that is granted is ready for the steps
+    pub used-ready : judged (namedCauses (t .nodes) c) ≡ granted → w ≡ granted → Ready (t .nodes) m (t .channels) c
+    used-ready named h =
+        let all = judged-past (namedCauses (t .nodes) c) (usedCauses t c) named ∙ sym in-use ∙ h in
+        rw limit (ready (t .nodes) (t .ports) (t .channels) c (table-rules t rules) (allowable t c all))
+
+-- for `search (needs, deciding)`
+pub ruleset deciding = (decide-refused, decide-granted, named-granted, survey-some, survey-low, used-refused, used-granted, used-ready)

@@ -1,9 +1,9 @@
--- 01: closing a circuit of the ring table. Assumes nothing.
+-- 01: closing a circuit of the ring table. Assumes nothing. What `RingTable::close` and `close_valid` promise.
 use Prim.Native.Nat.{ℕ}
 use mathlib.Core.Bool.{not}
 use mathlib.Core.List.{List, [], _∷_}
 use Rattle.channels.specs.Channels.{live}
-use Rattle.steps.specs.Closing.{closed}
+use Rattle.channels.specs.Closing.{closed}
 use Rattle.refusals.specs.Refusal.{Cause, _if_, judged}
 use Rattle.refusals.specs.declared.Refusal.the-variants.{NotLive, BrokenRule}
 use Rattle.refusals.specs.declared.Verdict.{Verdict}

@@ -1,5 +1,5 @@
-// The ring table and what a host calls on it: making a ring, opening and closing circuits. Every call takes the table whole and gives
-// it back whole beside its answer; a refusal gives it back as it was.
+// The ring table and what a host calls on it: making a ring, opening and closing circuits. A call on a table takes it whole and
+// gives it back whole beside its answer; a refusal gives it back as it was.
 
 mod close;
 mod decide;
@@ -11,16 +11,18 @@ ghost use Rattle.ports.specs.Ports.{wavelengths};
 ghost use Rattle.ring.specs.Table.{meetsRules, blankTable};
 use channels::Channel;
 use lightpath::Place;
-use moves::Move;
+use limits::PLACE_COUNT;
+use limits::PORT_FIELDS;
 use moves::Moves;
 use refusals::Refusal;
 use refusals::Verdict;
 
-// A ring of so many nodes, the ports of each (those beyond the last node zero), and what stands at its places.
+// What stands at the places of a ring, the ports of each node (those beyond the last zero), and the number of nodes. The places come
+// first, so that they begin where the table does and a copy of them is whole: bytes before them would be copied along.
 pub struct RingTable {
+    pub channels: [Channel; PLACE_COUNT],
+    pub ports: [u8; PORT_FIELDS],
     pub nodes: u8,
-    pub ports: [u8; 64],
-    pub channels: [Channel; 128],
 }
 
 // The answer to an opening: the place taken, the number of moves and of pairs tested; or the refusal.
@@ -41,12 +43,6 @@ pub struct Decision {
     pub moves: Moves,
 }
 
-// An opening's table and answer, and the three records that were lent for it.
-pub struct Listed {
-    pub opened: Opened,
-    pub list: [Move; 3],
-}
-
 // The table after a closing, or after a ring was made, beside the verdict.
 pub struct Answered {
     pub table: RingTable,
@@ -60,7 +56,7 @@ impl RingTable {
     {
         RingTable {
             nodes: 0,
-            ports: [0; 64],
+            ports: [0; PORT_FIELDS],
             channels: channels::unlit_channels(),
         }
     }

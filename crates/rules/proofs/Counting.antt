@@ -1,6 +1,6 @@
--- The paper's useful fact, for places that are all lit: with p places shared by two circuits, K port pairs and W = K / 3 rounded up,
--- "p < K − 2W". Other circuits of the ring only count against the ports. A ring holds at most 192 circuits.
--- Assumes nothing.
+-- The paper's useful fact, where all 2 × W usable places are lit and the ports serve their circuits and one more: with p places shared
+-- by two circuits, K port pairs and W = K / 3 rounded up, "p < K − 2W". Other circuits of the ring only count against the ports.
+-- And a table that meets the ring rules, full or not, holds at most 192 circuits. Assumes nothing.
 use Prim.Native.Nat.{ℕ, suc, _+_, _*_, _≤_, _<_}
 use mathlib.Core.Path.{_≡_, refl}
 use mathlib.Core.Bool.{true, false, true≢false}
@@ -12,6 +12,7 @@ use Rattle.basis.specs.Count.{total, All}
 use Rattle.basis.proofs.Bools.{and-left, and-right, all-map}
 use Rattle.basis.proofs.Search.{at-all}
 use Rattle.basis.proofs.Sums.{sum-le, by-nodes}
+use Rattle.limits.specs.Limits.{mostTotal}
 use Rattle.lightpath.specs.Place.{directionOf}
 use Rattle.lightpath.specs.Circuit.{adjacent}
 use Rattle.lightpath.specs.declared.Circuit.{Circuit}
@@ -99,11 +100,11 @@ sent-most ks cs on ports =
       by-nodes (λ c. c .source) (length ks) cs (all-map _ _ (source-node (length ks)) cs on),
     )
 
--- so a table that meets the ring rules holds at most 192
-pub circuits-most : (N : ℕ) (ks : List ℕ) (t : Channels) → Rules N ks t → length (circuits t) ≤ 192
+-- so a table that meets the ring rules holds at most as many as K can be
+pub circuits-most : (N : ℕ) (ks : List ℕ) (t : Channels) → Rules N ks t → length (circuits t) ≤ mostTotal
 circuits-most N ks t rules =
     let b = rules .bounds in
-    let k : total ks ≤ 192 = leb-true (total ks) 192 (search (and-left, and-right)) in
+    let k : total ks ≤ mostTotal = leb-true (total ks) mostTotal (search (and-left, and-right)) in
     omega (arith, sent-most ks (circuits t) (all-on (length ks) (slots t) places) (rules .ports))
   where
     places : All (Settled (length ks)) (slots t)

@@ -11,6 +11,7 @@ use borrow.Author.Tests.{ltb-true, ltb-false, lt-ltb}
 use Rattle.basis.specs.Choice.{pick}
 use Rattle.basis.proofs.Bools.{and-left, and-right, and-both}
 use Rattle.basis.proofs.Weigh.{bit-most}
+use Rattle.limits.specs.Limits.{placeCount}
 use Rattle.lightpath.specs.Place.{directionOf}
 use Rattle.lightpath.specs.Circuit.{joins, uses, users, canShare}
 use Rattle.lightpath.specs.declared.Circuit.{Circuit}
@@ -83,8 +84,8 @@ module _ (N p : ℕ) where
 
 -- no directed wavelength of a table that meets the rules carries two lightpaths over one link
 pub rules-links : (N : ℕ) (ks : List ℕ) (t : Channels) → Rules N ks t → (q l : ℕ) → 1 ≤ l → l ≤ N → carried N t q l ≤ 1
-rules-links N ks t rules q l low high = near (decLt q 128)
+rules-links N ks t rules q l low high = near (decLt q placeCount)
   where
-    near : Dec (q < 128) → carried N t q l ≤ 1
+    near : Dec (q < placeCount) → carried N t q l ≤ 1
     near (yes i) = fits-links N q (at t q) l (rules .places q i) low high
     near (no n) = let k = limits-hold N ks t rules in rw (none-there t q (omega arith)) (fits-links N q unlit l refl low high)

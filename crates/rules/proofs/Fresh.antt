@@ -10,6 +10,7 @@ use borrow.Author.Tests.{eq-eqb, le-leb}
 use Rattle.basis.specs.Count.{total}
 use Rattle.basis.proofs.Bools.{and-both}
 use Rattle.basis.proofs.Sums.{total-zeros, total-padded}
+use Rattle.limits.specs.Limits.{placeCount, leastNodes, mostNodes, portFields, mostPorts, mostTotal}
 use Rattle.slots.specs.declared.Slot.the-variants.{Unlit as unlit}
 use Rattle.channels.specs.Channels.{unlitChannel, unlitChannels, at}
 use Rattle.ports.specs.Ports.{eachAtMost}
@@ -17,23 +18,23 @@ use Rattle.ports.proofs.Counts.{each-zeros}
 use Rattle.rules.proofs.Rules.{Rules}
 
 -- no place is lit
-blank-unlit : (p : ℕ) → p < 128 → at unlitChannels p ≡ unlit
-blank-unlit p l = ap (λ ch. ch .slot) (getD-replicate 128 p unlitChannel unlitChannel l)
+blank-unlit : (p : ℕ) → p < placeCount → at unlitChannels p ≡ unlit
+blank-unlit p l = ap (λ ch. ch .slot) (getD-replicate placeCount p unlitChannel unlitChannel l)
 
 -- the rules hold
-pub fresh-rules : (N : ℕ) (ks : List ℕ) → 3 ≤ N → N ≤ 64 → length ks ≡ N → eachAtMost 64 ks ≡ true → total ks ≤ 192
-    → Rules N (ks ++ replicate (64 - length ks) 0) unlitChannels
+pub fresh-rules : (N : ℕ) (ks : List ℕ) → leastNodes ≤ N → N ≤ mostNodes → length ks ≡ N → eachAtMost mostPorts ks ≡ true → total ks ≤ mostTotal
+    → Rules N (ks ++ replicate (portFields - length ks) 0) unlitChannels
 fresh-rules N ks three most long each sum = record {
   bounds =
-      and-both _ _ (and-both _ _ (and-both _ _ (le-leb 3 N three) (le-leb N 64 most)) (each-zeros 64 ks (64 - length ks) ∙ each))
-      (le-leb (total (ks ++ zeros)) 192 (omega (arith, total-padded ks (64 - length ks))));
-  sizes = and-both _ _ (eq-eqb (length (ks ++ zeros)) 64 (omega (arith, length-append ks zeros, length-replicate {A = ℕ} (64 - length ks) 0))) refl;
+      and-both _ _ (and-both _ _ (and-both _ _ (le-leb leastNodes N three) (le-leb N mostNodes most)) (each-zeros mostPorts ks (portFields - length ks) ∙ each))
+      (le-leb (total (ks ++ zeros)) mostTotal (omega (arith, total-padded ks (portFields - length ks))));
+  sizes = and-both _ _ (eq-eqb (length (ks ++ zeros)) portFields (omega (arith, length-append ks zeros, length-replicate {A = ℕ} (portFields - length ks) 0))) refl;
   unused = λ p l k. rw (blank-unlit p l);
   places = λ p l. rw (blank-unlit p l);
   numbers = refl;
   ports = λ j l. (zero-le, zero-le);
-  spare = eq-eqb (total (drop N (ks ++ zeros))) 0 (ap total (drop-at ks zeros N long) ∙ total-zeros (64 - length ks));
+  spare = eq-eqb (total (drop N (ks ++ zeros))) 0 (ap total (drop-at ks zeros N long) ∙ total-zeros (portFields - length ks));
 }
   where
     zeros : List ℕ
-    zeros = replicate (64 - length ks) 0
+    zeros = replicate (portFields - length ks) 0

@@ -7,58 +7,77 @@ use native.Mathlib.Decide.{ℕ-discrete}
 use native.Mathlib.Numerals.{add-one}
 use native.Mathlib.Omega.{arith}
 use lib.Dec.{eqb}
-use lib.ListN.{length, getD, take, set, replicate, getD-replicate}
+use lib.ListN.{length, getD, take, set, replicate, length-set, length-replicate, getD-replicate}
 use borrow.Author.Tests.{leb-true, le-leb}
 use lib.Seq.{take-suc, getD-set-same, getD-set-other}
+use mir.Syntax.{w16}
+use mir.Val.{Fits}
 use Rattle.basis.specs.Choice.{bit}
 use Rattle.basis.specs.Count.{tally}
 use Rattle.basis.proofs.Bools.{and-left, and-right, and-both, same-test, bit-eq, bit-ne}
 use Rattle.basis.proofs.Weigh.{weigh-append}
 use Rattle.basis.proofs.Search.{every-at, at-every}
+use Rattle.limits.specs.Limits.{mostNodes, portFields, circuitRoom}
 use Rattle.lightpath.specs.Circuit.{blankCircuit}
 use Rattle.lightpath.specs.declared.Circuit.{Circuit}
 use Rattle.ports_used.specs.PortsUsed.{sends, receives}
 use Rattle.rules.specs.Rules.{portsHold}
-use Rattle.rules.specs.Tallies.{Tallied, enoughAt, enough}
+use Rattle.rules.specs.Tallies.{byteValues, Tallied, enoughAt, enough}
 use Rattle.rules.proofs.Rules.{ports-from, from-ports}
 
 -- the start of a loop that counts by node
-pub tallied-start : (key : Circuit → ℕ) (cs : List Circuit) → Tallied key cs 0 (replicate 256 0)
+pub tallied-start : (key : Circuit → ℕ) (cs : List Circuit) → Tallied key cs 0 (replicate byteValues 0)
 tallied-start key cs = record {
-  at = λ k l. getD-replicate {A = ℕ} 256 k 0 0 l;
-  low = λ k l. omega (arith, getD-replicate {A = ℕ} 256 k 0 0 l);
+  at = λ k l. getD-replicate {A = ℕ} byteValues k 0 0 l;
+  low = λ k l. omega (arith, getD-replicate {A = ℕ} byteValues k 0 0 l);
+  long = length-replicate {A = ℕ} byteValues 0;
 }
+
+-- a count has room for one more
+pub tallied-room : (key : Circuit → ℕ) (cs : List Circuit) (n m k : ℕ) (counts : List ℕ) → Tallied key cs n counts → n < m → m ≤ circuitRoom
+    → k < byteValues → Fits w16 (getD counts k 0 + 1)
+tallied-room key cs n m k counts h l most q = record { fits = omega (arith, h .low k q) }
 
 -- its step
 pub tallied-next : (key : Circuit → ℕ) (cs : List Circuit) (n node : ℕ) (counts : List ℕ) → Tallied key cs n counts
-    → node ≡ key (getD cs n blankCircuit) → n < length cs → node < 256 → length counts ≡ 256
+    → node ≡ key (getD cs n blankCircuit) → node < byteValues → n < length cs
     → Tallied key cs (n + 1) (set counts node (getD counts node 0 + 1))
-tallied-next key cs n node counts h e l m z = record {
+tallied-next key cs n node counts h e m l = record {
   at = λ k q. goes k q (ℕ-discrete k node);
   low = λ k q. lows k q (ℕ-discrete k node);
+  long = length-set counts node more ∙ h .long;
 }
   where
+    more : ℕ
+    more = getD counts node 0 + 1
+
     one-more : (k : ℕ) → tally key k (take (n + 1) cs) ≡ tally key k (take n cs) + bit (eqb (key (getD cs n blankCircuit)) k)
     one-more k =
         rw (add-one, take-suc cs n blankCircuit l)
         (omega (arith, weigh-append (λ x. bit (eqb (key x) k)) (take n cs) (getD cs n blankCircuit ∷ [])))
 
-    goes : (k : ℕ) → k < 256 → Dec (k ≡ node) → getD (set counts node (getD counts node 0 + 1)) k 0 ≡ tally key k (take (n + 1) cs)
+    goes : (k : ℕ) → k < byteValues → Dec (k ≡ node) → getD (set counts node more) k 0 ≡ tally key k (take (n + 1) cs)
     goes k q (yes s) =
-        rw (s, getD-set-same counts node (getD counts node 0 + 1) 0 (omega arith))
+        rw (s, getD-set-same counts node more 0 (omega (arith, h .long)))
         (omega (arith, one-more node, h .at node m, bit-eq (key (getD cs n blankCircuit)) node (sym e)))
     goes k q (no s) =
-        rw (getD-set-other counts node k (getD counts node 0 + 1) 0 s)
+        rw (getD-set-other counts node k more 0 s)
         (omega (arith, one-more k, h .at k q, bit-ne (key (getD cs n blankCircuit)) k (λ w. s (sym (e ∙ w)))))
 
-    lows : (k : ℕ) → k < 256 → Dec (k ≡ node) → getD (set counts node (getD counts node 0 + 1)) k 0 ≤ n + 1
-    lows k q (yes s) = rw (s, getD-set-same counts node (getD counts node 0 + 1) 0 (omega arith)) (omega (arith, h .low node m))
-    lows k q (no s) = rw (getD-set-other counts node k (getD counts node 0 + 1) 0 s) (omega (arith, h .low k q))
+    lows : (k : ℕ) → k < byteValues → Dec (k ≡ node) → getD (set counts node more) k 0 ≤ n + 1
+    lows k q (yes s) = rw (s, getD-set-same counts node more 0 (omega (arith, h .long))) (omega (arith, h .low node m))
+    lows k q (no s) = rw (getD-set-other counts node k more 0 s) (omega (arith, h .low k q))
+
+-- its end
+pub tallied-end : (key : Circuit → ℕ) (cs : List Circuit) (i n : ℕ) (counts : List ℕ) → Tallied key cs i counts → i ≤ n → n ≤ i → Tallied key cs n counts
+tallied-end key cs i n counts h l k = let e : i ≡ n = omega arith in rw e at h
+
+pub ruleset tallied = (tallied-start, tallied-room, tallied-end)
 
 module _ (ks : List ℕ) (cs : List Circuit) (n : ℕ) (sent received : List ℕ) (s : Tallied (λ c. c .source) cs n sent)
-    (r : Tallied (λ c. c .destination) cs n received) (long : length ks ≡ 64) where
+    (r : Tallied (λ c. c .destination) cs n received) (long : length ks ≡ portFields) where
   -- a node's counts are those of what it sends and receives
-  at-node : (j : ℕ) → j < 64 → (getD sent (j + 1) 0 ≡ sends (1 + j) (take n cs)) × (getD received (j + 1) 0 ≡ receives (1 + j) (take n cs))
+  at-node : (j : ℕ) → j < mostNodes → (getD sent (j + 1) 0 ≡ sends (1 + j) (take n cs)) × (getD received (j + 1) 0 ≡ receives (1 + j) (take n cs))
   at-node j l = let e : 1 + j ≡ j + 1 = omega arith in rw e (s .at (j + 1) (omega arith), r .at (j + 1) (omega arith))
 
   -- by them the ports are enough exactly where they hold
@@ -69,13 +88,13 @@ module _ (ks : List ℕ) (cs : List Circuit) (n : ℕ) (sent received : List ℕ
       holds e =
           from-ports 1 ks (take n cs)
           (λ j l.
-          let b = every-at 64 (enoughAt ks sent received) e j (omega arith) in
+          let b = every-at mostNodes (enoughAt ks sent received) e j (omega arith) in
           let k = at-node j (omega arith) in
           rw (← k .0, ← k .1) (leb-true _ _ (search and-left), leb-true _ _ (search and-right)))
 
       tests : portsHold 1 ks (take n cs) ≡ true → enough ks sent received ≡ true
       tests e =
-          at-every 64 (enoughAt ks sent received)
+          at-every mostNodes (enoughAt ks sent received)
           (λ j l.
           let b = ports-from 1 ks (take n cs) e j (omega arith) in
           let k = at-node j l in

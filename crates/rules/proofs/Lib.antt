@@ -7,6 +7,7 @@ pub mod Counting
 pub mod Pair
 pub mod Lane
 pub mod Full
+pub mod EachPlace
 pub mod Decided
 pub mod Distinct
 pub mod InUse

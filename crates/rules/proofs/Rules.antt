@@ -1,19 +1,22 @@
 -- The ring rules as facts, from the test and back. Assumes nothing.
 use Prim.Native.Nat.{ℕ, zero, suc, _+_, _≤_, _<_, suc-le-suc}
-use mathlib.Core.Path.{_≡_, refl}
-use mathlib.Core.Bool.{Bool, true, false, _||_}
+use mathlib.Core.Path.{_≡_, refl, sym, ap, _∙_}
+use mathlib.Core.Bool.{true, false, not}
 use mathlib.Core.List.{List, [], _∷_}
 use native.Mathlib.Nat.{le-of-suc-le-suc, not-suc-le-zero}
 use native.Mathlib.Omega.{arith}
-use lib.Dec.{eqb, ltb}
+use lib.Dec.{eqb}
 use lib.ListN.{length, getD}
-use borrow.Author.Tests.{eqb-true, ltb-false, le-ltb, leb-true, le-leb}
+use borrow.Author.Tests.{eqb-true, leb-true, le-leb, not-true}
 use Rattle.basis.specs.Count.{total, distinct}
 use Rattle.basis.proofs.Bools.{and-left, and-right, and-both}
 use Rattle.basis.proofs.Search.{every-at, at-every}
+use Rattle.limits.specs.Limits.{placeCount, leastNodes, mostNodes, portFields, mostTotal}
 use Rattle.lightpath.specs.declared.Circuit.{Circuit}
 use Rattle.slots.specs.Slot.{isUnlit}
-use Rattle.channels.specs.Channels.{Channels, at, circuits}
+use Rattle.lit_words.proofs.NoneLit.{none-lit-at, at-none-lit}
+use Rattle.channels.specs.Channels.{Channels, at, litAt, circuits}
+use Rattle.channels.proofs.LitPlaces.{unlit-not}
 use Rattle.ports.specs.Ports.{limitOf, limits, spareZero}
 use Rattle.ports_used.specs.PortsUsed.{sends, receives}
 use Rattle.rules.specs.Rules.{sized, ends, portsHold, shares, fits, ringRules}
@@ -45,8 +48,8 @@ from-ports i (k ∷ ks) cs h =
 pub record Rules (N : ℕ) (ks : List ℕ) (t : Channels) : Type 0 where
   pub bounds : limits N ks ≡ true
   pub sizes : sized ks t ≡ true
-  pub unused : (p : ℕ) → p < 128 → limitOf ks ≤ p → isUnlit (at t p) ≡ true
-  pub places : (p : ℕ) → p < 128 → fits N p (at t p) ≡ true
+  pub unused : (p : ℕ) → p < placeCount → limitOf ks ≤ p → isUnlit (at t p) ≡ true
+  pub places : (p : ℕ) → p < placeCount → fits N p (at t p) ≡ true
   pub numbers : distinct (λ c. c .number) (circuits t) ≡ true
   pub ports : PortsHold ks (circuits t)
   pub spare : spareZero N ks ≡ true
@@ -57,12 +60,10 @@ module _ (N : ℕ) (ks : List ℕ) (t : Channels) where
   rules-hold h = record {
     bounds = search (and-left, and-right) depth 8;
     sizes = search (and-left, and-right) depth 8;
-    unused =
-        λ p l k. rw (le-ltb p (limitOf ks) k) at
-        (every-at 128 (λ p. ltb p (limitOf ks) || isUnlit (at t p)) (search (and-left, and-right) depth 8) p l);
+    unused = λ p l k. sym (unlit-not (at t p)) ∙ ap not (none-lit-at (limitOf ks) (litAt t) (search (and-left, and-right) depth 8) p l k);
     places =
-        λ p l. and-both _ _ (every-at 128 (λ p. ends N (at t p)) (search (and-left, and-right) depth 8) p l)
-        (every-at 128 (λ p. shares N p (at t p)) (search (and-left, and-right) depth 8) p l);
+        λ p l. and-both _ _ (every-at placeCount (λ p. ends N (at t p)) (search (and-left, and-right) depth 8) p l)
+        (every-at placeCount (λ p. shares N p (at t p)) (search (and-left, and-right) depth 8) p l);
     numbers = search (and-left, and-right) depth 8;
     spare = search (and-left, and-right) depth 8;
     ports = λ j l. let e : 1 + j ≡ suc j = omega arith in rw e at (ports-from 1 ks (circuits t) (search (and-left, and-right) depth 8) j l);
@@ -75,37 +76,33 @@ module _ (N : ℕ) (ks : List ℕ) (t : Channels) where
       (and-both _ _
       (and-both _ _
       (and-both _ _
-      (and-both _ _ (and-both _ _ (and-both _ _ (r .bounds) (r .sizes)) (at-every 128 _ unused))
-      (at-every 128 (λ p. ends N (at t p)) (λ p l. and-left _ _ (r .places p l))))
+      (and-both _ _ (and-both _ _ (and-both _ _ (r .bounds) (r .sizes)) (at-none-lit (limitOf ks) (litAt t) unused))
+      (at-every placeCount (λ p. ends N (at t p)) (λ p l. and-left _ _ (r .places p l))))
       (r .numbers))
       (from-ports 1 ks (circuits t) (λ j l. let e : 1 + j ≡ suc j = omega arith in rw e (r .ports j l))))
-      (at-every 128 (λ p. shares N p (at t p)) (λ p l. and-right (ends N (at t p)) _ (r .places p l))))
+      (at-every placeCount (λ p. shares N p (at t p)) (λ p l. and-right (ends N (at t p)) _ (r .places p l))))
       (r .spare)
     where
-      unused : (p : ℕ) → p < 128 → (ltb p (limitOf ks) || isUnlit (at t p)) ≡ true
-      unused p l = go (ltb p (limitOf ks)) refl
-        where
-          go : (o : Bool) → ltb p (limitOf ks) ≡ o → (o || isUnlit (at t p)) ≡ true
-          go true e = refl
-          go false e = r .unused p l (ltb-false _ _ e)
+      unused : (p : ℕ) → p < placeCount → limitOf ks ≤ p → litAt t p ≡ false
+      unused p l k = not-true (litAt t p) (unlit-not (at t p) ∙ r .unused p l k)
 
 -- the numbers that the rules bound
 pub record Limits (N : ℕ) (ks : List ℕ) (t : Channels) : Type 0 where
-  pub three : 3 ≤ N
-  pub most : N ≤ 64
-  pub fields : length ks ≡ 64
-  pub long : length t ≡ 128
-  pub below : limitOf ks ≤ 128
+  pub three : leastNodes ≤ N
+  pub most : N ≤ mostNodes
+  pub fields : length ks ≡ portFields
+  pub long : length t ≡ placeCount
+  pub below : limitOf ks ≤ placeCount
 
 -- they follow from the rules
 pub limits-hold : (N : ℕ) (ks : List ℕ) (t : Channels) → Rules N ks t → Limits N ks t
 limits-hold N ks t r =
     let b = r .bounds in
-    let k : total ks ≤ 192 = leb-true _ _ (search (and-left, and-right)) in
+    let k : total ks ≤ mostTotal = leb-true _ _ (search (and-left, and-right)) in
     record {
       three = leb-true _ _ (search (and-left, and-right));
       most = leb-true _ _ (search (and-left, and-right));
       fields = eqb-true _ _ (and-left _ _ (r .sizes));
-      long = eqb-true _ _ (and-right (eqb (length ks) 64) _ (r .sizes));
+      long = eqb-true _ _ (and-right (eqb (length ks) portFields) _ (r .sizes));
       below = omega arith;
     }

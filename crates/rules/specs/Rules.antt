@@ -1,29 +1,31 @@
 -- 01, "The ring": the ring rules, in its order, for a ring of N nodes with the port counts ks and the places t. A place's type holds
--- none, one or two circuits and nothing else, so that it has no unused fields. Assumes nothing.
+-- none, one or two circuits and nothing else, so that it has no unused fields. Assumes nothing. What `ring_rules` promises.
 use Prim.Native.Nat.{ℕ, suc}
-use mathlib.Core.Bool.{Bool, true, _&&_, _||_}
+use mathlib.Core.Bool.{Bool, true, _&&_}
 use mathlib.Core.List.{List, [], _∷_}
 use lib.Dec.{eqb, leb, ltb}
 use lib.ListN.{length}
 use Rattle.basis.specs.Count.{distinct}
 use Rattle.basis.specs.Search.{everyBelow}
+use Rattle.limits.specs.Limits.{placeCount, portFields}
 use Rattle.lightpath.specs.Place.{directionOf}
 use Rattle.lightpath.specs.Circuit.{joins, users, canShare}
 use Rattle.lightpath.specs.declared.Circuit.{Circuit}
-use Rattle.slots.specs.Slot.{held, isUnlit}
+use Rattle.slots.specs.Slot.{held}
 use Rattle.slots.specs.declared.Slot.{Slot}
 use Rattle.slots.specs.declared.Slot.the-variants.{Unlit as unlit, Alone as alone, Shared as shared}
-use Rattle.channels.specs.Channels.{Channels, at, circuits}
+use Rattle.lit_words.specs.Lit.{noneLitFrom}
+use Rattle.channels.specs.Channels.{Channels, at, litAt, circuits}
 use Rattle.ports.specs.Ports.{limitOf, limits, spareZero}
 use Rattle.ports_used.specs.PortsUsed.{sends, receives}
 
--- 64 port fields and 128 places, as the types of a table say
+-- the port fields and places that a table has by its type
 abbrev pub sized : List ℕ → Channels → Bool
-sized ks t = eqb (length ks) 64 && eqb (length t) 128
+sized ks t = eqb (length ks) portFields && eqb (length t) placeCount
 
 -- places from m up stay unlit
 abbrev pub unlitFrom : ℕ → Channels → Bool
-unlitFrom m t = everyBelow 128 (λ p. ltb p m || isUnlit (at t p))
+unlitFrom m t = noneLitFrom m (litAt t)
 
 -- source and destination on the ring and different
 abbrev pub ends : ℕ → Slot → Bool
@@ -46,10 +48,10 @@ shares N p (shared a b) = ltb (a .number) (b .number) && canShare N (directionOf
 abbrev pub ringRules : ℕ → List ℕ → Channels → Bool
 ringRules N ks t =
     limits N ks && sized ks t && unlitFrom (limitOf ks) t
-    && everyBelow 128 (λ p. ends N (at t p))
+    && everyBelow placeCount (λ p. ends N (at t p))
     && distinct (λ c. c .number) (circuits t)
     && portsHold 1 ks (circuits t)
-    && everyBelow 128 (λ p. shares N p (at t p))
+    && everyBelow placeCount (λ p. shares N p (at t p))
     && spareZero N ks
 
 -- what place p holds is on the ring of N nodes and may stand there

@@ -7,18 +7,17 @@ mod tallies;
 ghost use mathlib.Core.Path.{_≡_};
 ghost use Rattle.rules.specs.Rules.{ringRules};
 use channels::Channel;
+use limits::PLACE_COUNT;
+use limits::PORT_FIELDS;
 
 // Whether the pieces of a table meet the ring rules.
-pub fn ring_rules(nodes: u8, ports: [u8; 64], channels: [Channel; 128]) -> bool
+pub fn ring_rules(nodes: u8, ports: [u8; PORT_FIELDS], channels: [Channel; PLACE_COUNT]) -> bool
     ensures { λ r. ⌜ r ≡ ringRules nodes ports channels ⌝ }
 {
     if !ports::limits_hold(nodes, ports) {
         return false;
     }
-    if !places::unlit_from(ports::place_limit(ports), channels) {
-        return false;
-    }
-    if !places::all_ends_hold(nodes, channels) {
+    if !places::places_hold(nodes, ports::place_limit(ports), channels) {
         return false;
     }
     let circuits = circuit_lists::circuits_of(channels);
@@ -28,9 +27,6 @@ pub fn ring_rules(nodes: u8, ports: [u8; 64], channels: [Channel; 128]) -> bool
         return false;
     }
     if !tallies::ports_hold(ports, list, count) {
-        return false;
-    }
-    if !places::all_sharing_holds(nodes, channels) {
         return false;
     }
     ports::spare_zero(nodes, ports)

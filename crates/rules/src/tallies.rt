@@ -2,50 +2,47 @@
 
 ghost use mathlib.Core.Path.{_≡_};
 ghost use mathlib.Core.Bool.{_&&_};
-ghost use Prim.Native.Nat.{_≤_};
+ghost use Prim.Native.Nat.{_≤_, _<_};
 ghost use lib.Dec.{leb};
 ghost use lib.ListN.{take};
+ghost use Rattle.limits.specs.Limits.{circuitRoom};
 ghost use Rattle.rules.specs.Rules.{portsHold};
-ghost use Rattle.rules.specs.Tallies.{Tallied, enough};
+ghost use Rattle.rules.specs.Tallies.{byteValues, Tallied, enough};
 use lightpath::Circuit;
+use limits::CIRCUIT_ROOM;
+use limits::PORT_FIELDS;
 
 // A node as an index.
 fn index(node: u8) -> usize
-    ensures { λ r. ⌜ (r ≡ node) × (r ≤ 255) ⌝ }
+    ensures { λ r. ⌜ (r ≡ node) × (r < byteValues) ⌝ }
 {
     node as usize
 }
 
-// How many of the first so many circuits each node sends.
-fn sent_counts(list: [Circuit; 256], count: usize) -> [u16; 256]
-    requires { ⌜ count ≤ 256 ⌝ }
-    ensures { λ r. ⌜ Tallied (λ c. c .source) list count r ⌝ }
-{
-    let mut counts = [0u16; 256];
-    let mut i: usize = 0;
-    while i < count {
-        let circuit = list[i];
-        let node = index(circuit.source);
-        counts[node] += 1;
-        i += 1;
-    }
-    counts
+// A node that is on no ring is counted too: there is a count for each value of a byte.
+const BYTE_VALUES: usize = 256;
+
+// How many circuits each node sends and receives.
+struct PortCounts {
+    sent: [u16; BYTE_VALUES],
+    received: [u16; BYTE_VALUES],
 }
 
-// How many of them each node receives.
-fn received_counts(list: [Circuit; 256], count: usize) -> [u16; 256]
-    requires { ⌜ count ≤ 256 ⌝ }
-    ensures { λ r. ⌜ Tallied (λ c. c .destination) list count r ⌝ }
+// How many of the first so many circuits each node sends and receives.
+fn port_counts(list: [Circuit; CIRCUIT_ROOM], count: usize) -> PortCounts
+    requires { ⌜ count ≤ circuitRoom ⌝ }
+    ensures { λ r. ⌜ Tallied (λ c. c .source) list count (r .sent) × Tallied (λ c. c .destination) list count (r .received) ⌝ }
 {
-    let mut counts = [0u16; 256];
-    let mut i: usize = 0;
-    while i < count {
+    let mut sent = [0u16; BYTE_VALUES];
+    let mut received = [0u16; BYTE_VALUES];
+    for i in 0..count {
         let circuit = list[i];
-        let node = index(circuit.destination);
-        counts[node] += 1;
-        i += 1;
+        let source = index(circuit.source);
+        let destination = index(circuit.destination);
+        sent[source] += 1;
+        received[destination] += 1;
     }
-    counts
+    PortCounts { sent, received }
 }
 
 // Whether a node's port count is enough for what it sends and for what it receives.
@@ -59,11 +56,15 @@ fn count_enough(ports: u8, sent: u16, received: u16) -> bool
 }
 
 // Whether each node has ports enough, by the counts of what each sends and receives.
-fn counts_enough(ports: [u8; 64], sent: [u16; 256], received: [u16; 256]) -> bool
+fn counts_enough(
+    ports: [u8; PORT_FIELDS],
+    sent: [u16; BYTE_VALUES],
+    received: [u16; BYTE_VALUES],
+) -> bool
     ensures { λ r. ⌜ r ≡ enough ports sent received ⌝ }
 {
     let mut i: usize = 0;
-    while i < 64 {
+    while i < PORT_FIELDS {
         if !count_enough(ports[i], sent[i + 1], received[i + 1]) {
             return false;
         }
@@ -73,11 +74,12 @@ fn counts_enough(ports: [u8; 64], sent: [u16; 256], received: [u16; 256]) -> boo
 }
 
 // Whether no node sends or receives more of the first so many circuits than it has ports.
-pub fn ports_hold(ports: [u8; 64], list: [Circuit; 256], count: usize) -> bool
-    requires { ⌜ count ≤ 256 ⌝ }
+pub fn ports_hold(ports: [u8; PORT_FIELDS], list: [Circuit; CIRCUIT_ROOM], count: usize) -> bool
+    requires { ⌜ count ≤ circuitRoom ⌝ }
     ensures { λ r. ⌜ r ≡ portsHold 1 ports (take count list) ⌝ }
 {
-    let sent = sent_counts(list, count);
-    let received = received_counts(list, count);
+    let counts = port_counts(list, count);
+    let sent = counts.sent;
+    let received = counts.received;
     counts_enough(ports, sent, received)
 }

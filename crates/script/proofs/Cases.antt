@@ -5,14 +5,15 @@ use mathlib.Core.Path.{_≡_, refl}
 use mathlib.Core.List.{List, [], _∷_, _++_, map}
 use lib.ListN.{replicate}
 use Rattle.lightpath.specs.Circuit.{ahead}
-use Rattle.plan.specs.Assigned.{assignedOf}
+use Rattle.lit_words.specs.Lit.{noneLitFrom}
+use Rattle.steps.specs.Steps.{planOf}
 use Rattle.ring.specs.Making.{makeOf}
 use Rattle.ring.specs.Opening.{decideOf}
 use Rattle.ring.specs.Closing.{closeOf}
 use Rattle.text.specs.Bytes.{bytes}
 use Rattle.text.specs.Decimal.{digitsUpTo, decimal}
 use Rattle.text.specs.Number.{numberAfter, number}
-use Rattle.requests.specs.Words.{wordsAfter}
+use Rattle.words.specs.Split.{wordsAfter}
 use Rattle.requests.specs.Line.{field, portsAfter, parseRing, parseOpen, parseClose, parseWords, parseLine}
 use Rattle.print.specs.Answers.{piece, moveLine}
 use Rattle.script.specs.Script.{linesAfter, linesText, scriptText}
@@ -75,5 +76,5 @@ cases =
 
 -- each script prints what the table says
 pub cases-printed : map (λ c. scriptText (c .0)) cases ≡ map (λ c. c .1) cases
-unfolding scriptText linesText linesAfter runRing runOpen runClose piece moveLine parseLine parseWords parseRing parseOpen parseClose portsAfter field wordsAfter number numberAfter decimal digitsUpTo makeOf decideOf closeOf assignedOf ahead
+unfolding scriptText linesText linesAfter runRing runOpen runClose piece moveLine parseLine parseWords parseRing parseOpen parseClose portsAfter field wordsAfter number numberAfter decimal digitsUpTo makeOf decideOf closeOf planOf ahead noneLitFrom
 cases-printed = refl

@@ -8,17 +8,17 @@ use lib.ListN.{length, take, getD, set, length-append, length-set}
 use lib.Seq.{take-suc-set, take-all, take-at}
 use borrow.Author.Tests.{ne-eqb}
 use Rattle.basis.proofs.Arrays.{lent-within, lent-counted}
-use Rattle.text.proofs.Put.{put-none, put-put, put-length}
-use Rattle.print.specs.Answers.{Printed}
-use Rattle.script.specs.Bytes.{Script, Session, Fed, after, texts, endText, startSession, scriptOf, Sound, Took}
+use Rattle.buffer.proofs.Put.{put-none, put-put, put-length}
+use Rattle.buffer.specs.Put.{Printed}
+use Rattle.script.specs.Bytes.{Script, Session, Fed, after, texts, mostHeld, startSession, scriptOf, ValidSession, Took, Finished}
 use Rattle.script.proofs.Cuts.{after-more, texts-more}
 use Rattle.desk.specs.Desk.{KeepsRules, runLine, answerRoom, Runs, Ended}
 use Rattle.desk.specs.declared.Desk.{Desk}
 use Rattle.desk.specs.declared.Ran.{Ran}
 
 -- before the first byte no ring was accepted
-pub start-sound : (s : Session) → s ≡ startSession → Sound s
-start-sound s e = rw e (record { held = omega arith; desk = λ h. let z : _≡_ {A = ℕ} 0 1 = cc in absurd (omega arith) })
+pub start-valid : (s : Session) → s ≡ startSession → ValidSession s
+start-valid s e = rw e (record { held = omega arith; desk = λ h. let z : _≡_ {A = ℕ} 0 1 = cc in absurd (omega arith) })
 
 -- the script of a desk and of the first bytes of a line
 abbrev pub scriptAt : Desk → List ℕ → ℕ → Script
@@ -29,19 +29,19 @@ pub record Feeding (s : Script) (chunk l0 : List ℕ) (d : Desk) (line : List �
   pub state : scriptAt d line held ≡ after s (take i chunk)
   pub text : Printed (answerRoom * i) l0 0 (texts s (take i chunk)) l at
   pub within : i ≤ length chunk
-  pub width : length line ≡ 257
-  pub few : held ≤ 257
+  pub width : length line ≡ mostHeld
+  pub few : held ≤ mostHeld
   pub rules : KeepsRules d
   pub space : answerRoom * length chunk ≤ length l0
 
-pub feed-none : (s : Session) (chunk l0 : List ℕ) → Sound s → length (s .line) ≡ 257 → answerRoom * length chunk ≤ length l0
+pub feed-none : (s : Session) (chunk l0 : List ℕ) → ValidSession s → length (s .line) ≡ mostHeld → answerRoom * length chunk ≤ length l0
     → Feeding (scriptOf s) chunk l0 (s .desk) (s .line) (s .held) l0 0 0
 unfolding after texts
 feed-none s chunk l0 f w h =
     record { state = refl; text = record { put = put-none; short = omega arith }; within = omega arith; width = w; few = f .held; rules = f .desk; space = h }
 
 module _ (s : Script) (chunk l0 : List ℕ) (d : Desk) (line : List ℕ) (held : ℕ) (l : List ℕ) (at i : ℕ) (q : Feeding s chunk l0 d line held l at i) where
-  pub feed-few : held ≤ 257
+  pub feed-few : held ≤ mostHeld
   feed-few = q .few
 
   pub feed-long : length l ≡ length l0
@@ -70,8 +70,8 @@ module _ (s : Script) (chunk l0 : List ℕ) (d : Desk) (line : List ℕ) (held :
         }
 
     -- another byte, with which the line held is as given
-    other : (line′ : List ℕ) (held′ : ℕ) → (getD chunk i 0 ≡ 10 → ⊥) → take 257 (take held line ++ (getD chunk i 0 ∷ [])) ≡ take held′ line′
-        → length line′ ≡ 257 → held′ ≤ 257
+    other : (line′ : List ℕ) (held′ : ℕ) → (getD chunk i 0 ≡ 10 → ⊥) → take mostHeld (take held line ++ (getD chunk i 0 ∷ [])) ≡ take held′ line′
+        → length line′ ≡ mostHeld → held′ ≤ mostHeld
         → Feeding s chunk l0 d line′ held′ l at (i + 1)
     other line′ held′ n e w f =
         record {
@@ -88,19 +88,19 @@ module _ (s : Script) (chunk l0 : List ℕ) (d : Desk) (line : List ℕ) (held :
           space = q .space;
         }
 
-    pub feed-hold : (getD chunk i 0 ≡ 10 → ⊥) → held < 257 → Feeding s chunk l0 d (set line held (getD chunk i 0)) (held + 1) l at (i + 1)
+    pub feed-hold : (getD chunk i 0 ≡ 10 → ⊥) → held < mostHeld → Feeding s chunk l0 d (set line held (getD chunk i 0)) (held + 1) l at (i + 1)
     feed-hold n f =
         let c : held < length line = omega (arith, q .width) in
         let z : take (held + 1) (set line held (getD chunk i 0)) ≡ take held line ++ (getD chunk i 0 ∷ []) = rw add-one (take-suc-set line held (getD chunk i 0) c) in
-        let k : length (take held line ++ (getD chunk i 0 ∷ [])) ≤ 257 =
-        omega (arith, length-append (take held line) (getD chunk i 0 ∷ []), lent-counted line held (lent-within line 257 held (q .width) (q .few))) in
-        other (set line held (getD chunk i 0)) (held + 1) n (take-all 257 (take held line ++ (getD chunk i 0 ∷ [])) k ∙ sym z) (simp length-set (q .width)) (omega arith)
+        let k : length (take held line ++ (getD chunk i 0 ∷ [])) ≤ mostHeld =
+        omega (arith, length-append (take held line) (getD chunk i 0 ∷ []), lent-counted line held (lent-within line mostHeld held (q .width) (q .few))) in
+        other (set line held (getD chunk i 0)) (held + 1) n (take-all mostHeld (take held line ++ (getD chunk i 0 ∷ [])) k ∙ sym z) (simp length-set (q .width)) (omega arith)
 
-    -- 257 bytes are held already
-    pub feed-drop : (getD chunk i 0 ≡ 10 → ⊥) → 257 ≤ held → Feeding s chunk l0 d line held l at (i + 1)
+    -- as many bytes as may be are held already
+    pub feed-drop : (getD chunk i 0 ≡ 10 → ⊥) → mostHeld ≤ held → Feeding s chunk l0 d line held l at (i + 1)
     feed-drop n f =
-        let e : length (take held line) ≡ 257 = omega (arith, q .few, lent-counted line held (lent-within line 257 held (q .width) (q .few))) in
-        other line held n (take-at (take held line) (getD chunk i 0 ∷ []) 257 e) (q .width) (q .few)
+        let e : length (take held line) ≡ mostHeld = omega (arith, q .few, lent-counted line held (lent-within line mostHeld held (q .width) (q .few))) in
+        other line held n (take-at (take held line) (getD chunk i 0 ∷ []) mostHeld e) (q .width) (q .few)
 
   pub feed-all : (s0 : Session) → scriptOf s0 ≡ s → length chunk ≤ i → Took s0 chunk l0 l (record { session = record { desk = d; line = line; held = held }; wrote = at })
   feed-all s0 e h =
@@ -108,20 +108,20 @@ module _ (s : Script) (chunk l0 : List ℕ) (d : Desk) (line : List ℕ) (held :
       record {
         state = rw e (q .state ∙ rw k);
         text = rw e (record { put = rw k at (q .text .put); short = omega (arith, q .text .short, q .within) });
-        sound = record { held = q .few; desk = q .rules };
+        valid = record { held = q .few; desk = q .rules };
       }
 
 pub ruleset feeding = (feed-none, feed-few, feed-long, lent-within, lent-counted, feed-runs, feed-line, feed-hold, feed-drop)
 
 -- the end of the input
 module _ (s : Session) (l : List ℕ) where
-  pub end-none : s .held ≡ 0 → Printed answerRoom l 0 (endText (scriptOf s)) l 0
-  end-none h = rw h (record { put = put-none; short = omega arith })
+  pub end-none : s .held ≡ 0 → Finished s l l 0
+  end-none h = record { text = rw h (record { put = put-none; short = omega arith }) }
 
-  pub end-line : (l′ : List ℕ) (r : Fed) → Sound s → length (s .line) ≡ 257 → (s .held ≡ 0 → ⊥) → Took s (10 ∷ []) l l′ r
-      → Printed answerRoom l 0 (endText (scriptOf s)) l′ (r .wrote)
+  pub end-line : (l′ : List ℕ) (r : Fed) → ValidSession s → length (s .line) ≡ mostHeld → (s .held ≡ 0 → ⊥) → Took s (10 ∷ []) l l′ r
+      → Finished s l l′ (r .wrote)
   unfolding texts
   end-line l′ r f w n m =
-      rw (ne-eqb (length (take (s .held) (s .line))) 0 (λ e. n (lent-counted (s .line) (s .held) (lent-within (s .line) 257 (s .held) w (f .held)) ∙ e)), ← append-nil (runLine (s .desk) (take (s .held) (s .line)) .text)) (m .text)
+      record { text = rw (ne-eqb (length (take (s .held) (s .line))) 0 (λ e. n (lent-counted (s .line) (s .held) (lent-within (s .line) mostHeld (s .held) w (f .held)) ∙ e)), ← append-nil (runLine (s .desk) (take (s .held) (s .line)) .text)) (m .text) }
 
 pub ruleset ending = (end-none, end-line)

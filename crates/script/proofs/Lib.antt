@@ -1,5 +1,6 @@
--- The laws of bytes as they come: the cut into reads does not matter.
+-- The laws of bytes as they come: the cut into reads does not matter, and the whole program by its calls' promises.
 pub mod Cuts
 pub mod Feeding
-pub mod Whole
+pub mod ByLines
+pub mod Program
 pub mod Cases

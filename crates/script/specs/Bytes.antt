@@ -1,11 +1,13 @@
 -- A script's bytes as they come: the state between two reads, and what a read does and prints. Assumes nothing.
-use Prim.Native.Nat.{ℕ, _*_, _≤_}
+-- What `start`, `feed` and `finish` promise.
+use Prim.Native.Nat.{ℕ, _+_, _*_, _≤_}
 use mathlib.Core.Path.{_≡_}
 use mathlib.Core.List.{List, [], _∷_, _++_}
 use lib.Dec.{eqb}
 use lib.ListN.{length, take, replicate}
 use Rattle.basis.specs.Choice.{pick}
-use Rattle.print.specs.Answers.{Printed}
+use Rattle.buffer.specs.Put.{Printed}
+use Rattle.requests.specs.Line.{longestLine}
 use Rattle.desk.specs.Desk.{emptyDesk, KeepsRules, runLine, answerRoom}
 use Rattle.desk.specs.declared.Desk.{Desk}
 pub use Rattle.script.specs.declared.Session.{Session}
@@ -16,9 +18,13 @@ pub record Script : Type 0 where
   pub desk : Desk
   pub held : List ℕ
 
--- one byte: a line end runs the line held, and any other is held; 257 bytes are enough to see that a line is too long
+-- the most bytes of a line that are held: enough to see that a line is too long
+abbrev pub mostHeld : ℕ
+mostHeld = longestLine + 1
+
+-- one byte: a line end runs the line held, and any other is held
 abbrev pub byteAfter : Script → ℕ → Script
-byteAfter s x = pick (eqb x 10) (record { desk = runLine (s .desk) (s .held) .desk; held = [] }) (record { desk = s .desk; held = take 257 (s .held ++ (x ∷ [])) })
+byteAfter s x = pick (eqb x 10) (record { desk = runLine (s .desk) (s .held) .desk; held = [] }) (record { desk = s .desk; held = take mostHeld (s .held ++ (x ∷ [])) })
 
 abbrev pub byteText : Script → ℕ → List ℕ
 byteText s x = pick (eqb x 10) (runLine (s .desk) (s .held) .text) []
@@ -36,22 +42,17 @@ texts s (x ∷ xs) = byteText s x ++ texts (byteAfter s x) xs
 abbrev pub endText : Script → List ℕ
 endText s = pick (eqb (length (s .held)) 0) [] (runLine (s .desk) (s .held) .text)
 
--- what reads print one after another, and the end of the input after them
-unfoldable pub readsText : Script → List (List ℕ) → List ℕ
-readsText s [] = endText s
-readsText s (chunk ∷ chunks) = texts s chunk ++ readsText (after s chunk) chunks
-
 -- the session before the first byte
 abbrev pub startSession : Session
-startSession = record { desk = emptyDesk; line = replicate 257 0; held = 0 }
+startSession = record { desk = emptyDesk; line = replicate mostHeld 0; held = 0 }
 
 -- the script that a session is: of its line the first bytes are held
 abbrev pub scriptOf : Session → Script
 scriptOf s = record { desk = s .desk; held = take (s .held) (s .line) }
 
--- a session that holds at most 257 bytes, at a desk whose table meets the ring rules; so it is before the first byte and after any bytes
-pub record Sound (s : Session) : Type 0 where
-  pub held : s .held ≤ 257
+-- a session that holds at most so many bytes, at a desk whose table meets the ring rules; so it is before the first byte and after any bytes
+pub record ValidSession (s : Session) : Type 0 where
+  pub held : s .held ≤ mostHeld
   pub desk : KeepsRules (s .desk)
 
 -- bytes were taken in: the session is the script after them, and what they print stands at the start of the lent bytes. Left
@@ -59,4 +60,8 @@ pub record Sound (s : Session) : Type 0 where
 pub record Took (s : Session) (chunk l l′ : List ℕ) (r : Fed) : Type 0 where
   pub state : scriptOf (r .session) ≡ after (scriptOf s) chunk
   pub text : Printed (answerRoom * length chunk) l 0 (texts (scriptOf s) chunk) l′ (r .wrote)
-  pub sound : Sound (r .session)
+  pub valid : ValidSession (r .session)
+
+-- the end of the input was taken in: what it prints stands at the start of the lent bytes
+pub record Finished (s : Session) (l l′ : List ℕ) (wrote : ℕ) : Type 0 where
+  pub text : Printed answerRoom l 0 (endText (scriptOf s)) l′ wrote

@@ -1,4 +1,5 @@
 -- A script: the lines of the input, run one after another. Assumes nothing.
+-- What `start`, any number of `feed`s and `finish` write in all.
 use Prim.Native.Nat.{ℕ}
 use mathlib.Core.List.{List, [], _∷_, _++_}
 use lib.Dec.{eqb}

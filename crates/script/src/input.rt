@@ -2,10 +2,10 @@
 ghost use mathlib.Core.Path.{_≡_};
 ghost use Prim.Native.Nat.{_*_, _≤_};
 ghost use lib.ListN.{length};
-ghost use Rattle.print.specs.Answers.{Printed};
-ghost use Rattle.script.specs.Bytes.{Sound, Took, startSession, scriptOf, endText};
+ghost use Rattle.script.specs.Bytes.{startSession, ValidSession, Took, Finished};
 ghost use Rattle.desk.specs.Desk.{answerRoom};
 use crate::Fed;
+use crate::MOST_HELD;
 use crate::Session;
 use desk::Desk;
 use ring::RingTable;
@@ -19,14 +19,14 @@ pub fn start() -> Session
             ready: false,
             table: RingTable::blank(),
         },
-        line: [0; 257],
+        line: [0; MOST_HELD],
         held: 0,
     }
 }
 
 // Takes bytes in, and writes what they print at the start of the lent bytes.
 pub fn feed(session: Session, chunk: &[u8], out: &mut [u8]) -> Fed
-    requires { ⌜ Sound session × (answerRoom * length (now chunk) ≤ length (now out)) ⌝ }
+    requires { ⌜ ValidSession session × (answerRoom * length (now chunk) ≤ length (now out)) ⌝ }
     ensures { λ r. ⌜ Took session (now (chunk .entry)) (now (out .entry)) (now (out .exit)) r ⌝ }
 {
     let mut desk = session.desk;
@@ -44,7 +44,7 @@ pub fn feed(session: Session, chunk: &[u8], out: &mut [u8]) -> Fed
             held = 0;
             continue;
         }
-        if held < 257 {
+        if held < MOST_HELD {
             line[held] = byte;
             held += 1;
             continue;
@@ -58,8 +58,8 @@ pub fn feed(session: Session, chunk: &[u8], out: &mut [u8]) -> Fed
 
 // The end of the input ends a line that is held. Gives how many bytes were written at the start of the lent bytes.
 pub fn finish(session: Session, out: &mut [u8]) -> usize
-    requires { ⌜ Sound session × (answerRoom ≤ length (now out)) ⌝ }
-    ensures { λ r. ⌜ Printed answerRoom (now (out .entry)) 0 (endText (scriptOf session)) (now (out .exit)) r ⌝ }
+    requires { ⌜ ValidSession session × (answerRoom ≤ length (now out)) ⌝ }
+    ensures { λ r. ⌜ Finished session (now (out .entry)) (now (out .exit)) r ⌝ }
 {
     if session.held == 0 {
         return 0;

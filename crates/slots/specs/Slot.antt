@@ -1,4 +1,4 @@
--- 01, "The ring": what one place holds. Assumes nothing.
+-- 01, "The ring": what one place holds. Assumes nothing. What the calls of the ring table promise.
 use Prim.Native.Nat.{ℕ}
 use mathlib.Core.Bool.{Bool, true, false, _||_}
 use mathlib.Core.List.{List, [], _∷_}

@@ -2,6 +2,7 @@
 
 ghost use mathlib.Core.Path.{_≡_};
 ghost use Rattle.slots.specs.Slot.{isLit, isUnlit, isAlone, firstOf, together, without, holds};
+use lightpath::BLANK_CIRCUIT;
 use lightpath::Circuit;
 
 // The content of a place: unlit, one circuit alone, or two that share it, the lower number first.
@@ -10,13 +11,6 @@ pub enum Slot {
     Alone(Circuit),
     Shared(Circuit, Circuit),
 }
-
-const BLANK: Circuit = Circuit {
-    number: 0,
-    source: 0,
-    destination: 0,
-    remark: 0,
-};
 
 impl Slot {
     // Whether a circuit is there.
@@ -57,7 +51,7 @@ impl Slot {
         ensures { λ r. ⌜ r ≡ firstOf self ⌝ }
     {
         match self {
-            Slot::Unlit => BLANK,
+            Slot::Unlit => BLANK_CIRCUIT,
             Slot::Alone(a) => a,
             Slot::Shared(a, _) => a,
         }

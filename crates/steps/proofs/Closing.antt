@@ -15,13 +15,13 @@ use Rattle.slots.specs.Slot.{held, isUnlit, without}
 use Rattle.slots.specs.declared.Slot.{Slot}
 use Rattle.slots.specs.declared.Slot.the-variants.{Unlit as unlit, Alone as alone, Shared as shared}
 use Rattle.channels.specs.Channels.{Channels, at, numbered, live, whereIs, circuitOf}
+use Rattle.channels.specs.Closing.{closing, closed}
 use Rattle.channels.specs.declared.Standing.{Standing}
 use Rattle.channels.proofs.Puts.{puts-there}
 use Rattle.channels.proofs.Numbers.{ofNumber, Parted, parted, found-there, live-placed}
 use Rattle.ports.specs.Ports.{limitOf}
 use Rattle.rules.proofs.Rules.{Rules, limits-hold}
 use Rattle.rules.proofs.Fits.{without-fits}
-use Rattle.steps.specs.Closing.{closing, closed}
 use Rattle.steps.specs.Kept.{Kept}
 use Rattle.steps.proofs.Sound.{Gets, Has, Sound, keeps, stays-above}
 

@@ -28,6 +28,7 @@ use Rattle.rules.proofs.Fits.{alone-fits, alone-joins, together-fits}
 use Rattle.rules.proofs.Allowable.{Allowable}
 use Rattle.steps.specs.Plan.{Plan, joining, lighting, oneMove, twoMoves, threeMoves}
 use Rattle.steps.specs.Kept.{Served}
+use Rattle.steps.proofs.Following.{Known, follow-joining, follow-lighting, follow-one, follow-two, follow-three}
 use Rattle.steps.proofs.Sound.{Inside, has, old-place, serves}
 
 -- a plan that opens c
@@ -65,6 +66,14 @@ module _ (N : ℕ) (ks : List ℕ) (t : Channels) (rules : Rules N ks t) where
   fits-alone : (p : ℕ) (m : Standing) → Stands (limitOf ks) t m → fits N p (alone (m .circuit)) ≡ true
   fits-alone p m s = alone-fits N p (m .circuit) (ends m s)
 
+  -- it is the circuit of its number
+  known : (m : Standing) → Stands (limitOf ks) t m → Known t m
+  known m s = record {
+    there = s .there;
+    within = inside (m .place) (s .low);
+    own = rw (old-place N ks t rules (m .place) (m .circuit) (has N ks t rules m s), s .there);
+  }
+
   -- two at two places have two numbers
   two-numbers : (a b : Standing) → Stands (limitOf ks) t a → Stands (limitOf ks) t b → a .place ≢ b .place → a .circuit .number ≢ b .circuit .number
   two-numbers a b sa sb n e =
@@ -99,7 +108,7 @@ module _ (N : ℕ) (ks : List ℕ) (t : Channels) (c : Circuit) (rules : Rules N
         gave = λ w. omega (arith, together-weighs w (a .circuit) c);
         stayed = ((has N ks t rules a sa, inl (refl, left (a .circuit) c)), tt);
         went = tt;
-      }) (sa .low, tt) (inl (refl, right (a .circuit) c)) zero-le
+      }) (sa .low, tt) (inl (refl, right (a .circuit) c)) zero-le (follow-joining t c a (known N ks t rules a sa))
 
   -- step 2
   pub lighted : (p : ℕ) → p < limitOf ks → at t p ≡ unlit → Good N ks t c (lighting c p)
@@ -113,7 +122,7 @@ module _ (N : ℕ) (ks : List ℕ) (t : Channels) (c : Circuit) (rules : Rules N
         gave = λ w. omega arith;
         stayed = tt;
         went = tt;
-      }) (l, tt) (inl (refl, one c)) zero-le
+      }) (l, tt) (inl (refl, one c)) zero-le (follow-lighting t c p e)
 
   -- step 3a
   pub one-moved : (a b : Standing) (k : ℕ) → Stands (limitOf ks) t a → Stands (limitOf ks) t b → a .place ≢ b .place
@@ -128,7 +137,7 @@ module _ (N : ℕ) (ks : List ℕ) (t : Channels) (c : Circuit) (rules : Rules N
         gave = λ w. omega (arith, together-weighs w (a .circuit) (b .circuit));
         stayed = ((has N ks t rules a sa, inl (refl, left (a .circuit) (b .circuit))), tt);
         went = ((has N ks t rules b sb, inl (refl, right (a .circuit) (b .circuit)), λ e. n (sym e)), tt);
-      }) (sa .low, (sb .low, tt)) (inr (inl (refl, one c))) (omega arith)
+      }) (sa .low, (sb .low, tt)) (inr (inl (refl, one c))) (omega arith) (follow-one t c a b k (known N ks t rules a sa) (known N ks t rules b sb) n)
 
   -- step 3b with an old member and the new circuit
   pub two-moved : (x a : Standing) (k : ℕ) → Stands (limitOf ks) t x → Stands (limitOf ks) t a → x .place ≢ a .place
@@ -146,7 +155,7 @@ module _ (N : ℕ) (ks : List ℕ) (t : Channels) (c : Circuit) (rules : Rules N
           (has N ks t rules x sx, inr (inl (refl, one (x .circuit))), n),
           ((has N ks t rules a sa, inl (refl, left (a .circuit) c), λ e. n (sym e)), tt),
         );
-      }) (sx .low, (sa .low, tt)) (inl (refl, right (a .circuit) c)) (omega arith)
+      }) (sx .low, (sa .low, tt)) (inl (refl, right (a .circuit) c)) (omega arith) (follow-two t c x a k (known N ks t rules x sx) (known N ks t rules a sa) n)
 
   -- step 3b with two old members
   pub three-moved : (x a b : Standing) (k : ℕ) → Stands (limitOf ks) t x → Stands (limitOf ks) t a → Stands (limitOf ks) t b
@@ -176,3 +185,4 @@ module _ (N : ℕ) (ks : List ℕ) (t : Channels) (c : Circuit) (rules : Rules N
           ),
         );
       }) (sx .low, (sa .low, (sb .low, tt))) (inr (inr (inl (refl, one c)))) (omega arith)
+      (follow-three t c x a b k (known N ks t rules x sx) (known N ks t rules a sa) (known N ks t rules b sb) xa xb ab)

@@ -1,5 +1,6 @@
--- The laws of the steps: what sound changes keep, the five cases, the searches, the candidates, step 3's two claims, the plan, its looks;
--- and closing.
+-- The laws of the steps: following the records, what sound changes keep, the five cases, the searches, the candidates, step 3's two
+-- claims, the plan, its looks; and closing.
+pub mod Following
 pub mod Sound
 pub mod Five
 pub mod Searches

@@ -18,7 +18,7 @@ use Rattle.channels.specs.Nonsharing.{nonsharing, standingAt}
 use Rattle.channels.specs.declared.Standing.{Standing}
 use Rattle.channels.proofs.Nonsharing.{nonsharing-most}
 use Rattle.steps.specs.Plan.{Plan, joining, lighting}
-use Rattle.steps.specs.Steps.{joinPlace, unlitPlace, nowhere, newcomer, candidates, foundPair, looks, standsRight, rearranging, planOf, Ready}
+use Rattle.steps.specs.Steps.{joinPlace, unlitPlace, nowhere, newcomer, candidates, foundPair, looks, standsRight, xOf, rearranging, stepThree, planOf, Ready}
 
 -- whichever of two plans is taken
 picked : (o : Bool) (x y : Plan) (k : ℕ) → x .looks ≡ k → y .looks ≡ k → pick o x y .looks ≡ k
@@ -26,8 +26,8 @@ picked true x y k h i = h
 picked false x y k h i = i
 
 -- each case of step 3 hands on the looks
-rearranging-looks : (N m : ℕ) (t : Channels) (c : Circuit) (a b : Standing) (k : ℕ) → rearranging N m t c a b k .looks ≡ k
-rearranging-looks N m t c a b k =
+rearranging-looks : (N : ℕ) (c : Circuit) (x a b : Standing) (k : ℕ) → rearranging N c x a b k .looks ≡ k
+rearranging-looks N c x a b k =
     picked (standsRight N a b a) _ _ k refl (picked (standsRight N a b b) _ _ k refl (picked (ltb (b .place) nowhere) _ _ k refl refl))
 
 module _ (N m : ℕ) (t : Channels) (c : Circuit) (ready : Ready N m t c) where
@@ -40,20 +40,18 @@ module _ (N m : ℕ) (t : Channels) (c : Circuit) (ready : Ready N m t c) where
   few-pairs = omega (arith, pairs-length (candidates m t c), few-candidates, mul-le-mul-right (length (candidates m t c)) few-candidates)
 
   -- of which one is found
-  pub looks-most : planOf N m t c .looks ≤ 8256
-  looks-most = go (ltb (joinPlace N m t c) m) refl (ltb (unlitPlace N m t c) m) refl
+  pub plan-looks : planOf N m t c .looks ≤ 8256
+  unfolding planOf
+  plan-looks = go (ltb (joinPlace N m t c) m) refl (ltb (unlitPlace N m t c) m) refl
     where
-      rest : Plan
-      rest = rearranging N m t c (foundPair m t c .0) (foundPair m t c .1) (looks m t c)
-
       go : (o : Bool) → ltb (joinPlace N m t c) m ≡ o → (r : Bool) → ltb (unlitPlace N m t c) m ≡ r
-          → pick o (joining c (standingAt t (joinPlace N m t c))) (pick r (lighting c (unlitPlace N m t c)) rest) .looks ≤ 8256
+          → pick o (joining c (standingAt t (joinPlace N m t c))) (pick r (lighting c (unlitPlace N m t c)) (stepThree N m t c)) .looks ≤ 8256
       go true e r f = zero-le
       go false e true f = zero-le
       go false e false f =
           omega (
             arith,
-            rearranging-looks N m t c (foundPair m t c .0) (foundPair m t c .1) (looks m t c),
+            rearranging-looks N c (xOf N m t (foundPair m t c .0) (foundPair m t c .1)) (foundPair m t c .0) (foundPair m t c .1) (looks m t c),
             few-pairs,
             ready .pair (ltb-false _ _ e) (ltb-false _ _ f),
           )

@@ -30,6 +30,7 @@ use Rattle.rules.proofs.Rules.{PortsHold, Rules, rules-test, limits-hold}
 use Rattle.rules.proofs.Fits.{rules-links}
 use Rattle.rules.proofs.Allowable.{Allowable, ports-more, numbers-more}
 use Rattle.steps.specs.Plan.{movesTo}
+use Rattle.steps.specs.Following.{followed}
 use Rattle.steps.specs.Kept.{moved, Names, Kept, Served}
 
 -- an old circuit that goes to another place
@@ -278,14 +279,15 @@ module _ (N : ℕ) (ks : List ℕ) (t : Channels) (gone new : List Circuit) (chs
 pub stays-above : (m : ℕ) (chs : List Change) (t : Channels) → All (λ ch. ch .place < m) chs → (q : ℕ) → m ≤ q → at (puts chs t) q ≡ at t q
 stays-above m chs t low q h = puts-there chs t q (all-map _ _ (λ ch k e. absurd (omega arith)) chs low)
 
--- sound changes below the limit that give c to place p open c at p
+-- sound changes below the limit that give c to place p open c at p, where the records lead to them
 pub serves : (N : ℕ) (ks : List ℕ) (t : Channels) (c : Circuit) (chs : List Change) (p : ℕ) (stay : List Standing) (go : List Shift)
     → Rules N ks t → Allowable N ks t c → Sound N t [] (c ∷ []) chs stay go → All (λ ch. ch .place < limitOf ks) chs → Gets chs p c
-    → length go ≤ 3 → Served N ks t c (puts chs t) p (shifts go)
-serves N ks t c chs p stay go rules may s low g few =
+    → length go ≤ 3 → followed t (shifts go) c p ≡ puts chs t → Served N ks t c (puts chs t) p (shifts go)
+serves N ks t c chs p stay go rules may s low g few follows =
     let up = stays-above (limitOf ks) chs t low in
     record {
       kept = keeps N ks t [] (c ∷ []) chs stay go rules (numbers-more N ks t c rules may) (ports-more N ks t c rules may) s up;
       placed = placed N ks t [] (c ∷ []) chs stay go rules (numbers-more N ks t c rules may) (ports-more N ks t c rules may) s up p c g;
       few = omega (arith, shift-length go);
+      follows = follows;
     }

@@ -24,8 +24,8 @@ use Rattle.channels.proofs.Nonsharing.{Stands, Lower, stands-alone}
 use Rattle.ports.specs.Ports.{limitOf}
 use Rattle.rules.proofs.Rules.{Rules, limits-hold}
 use Rattle.rules.proofs.Allowable.{Allowable}
-use Rattle.steps.specs.Plan.{Plan, joining, lighting, oneMove, twoMoves, threeMoves}
-use Rattle.steps.specs.Steps.{joinPlace, unlitPlace, nowhere, newcomer, candidates, foundPair, looks, standsRight, lowestAlone, xOf, rearranging, planOf}
+use Rattle.steps.specs.Plan.{joining, lighting, oneMove, twoMoves, threeMoves}
+use Rattle.steps.specs.Steps.{joinPlace, unlitPlace, nowhere, newcomer, candidates, foundPair, looks, standsRight, lowestAlone, xOf, rearranging, stepThree, planOf}
 use Rattle.steps.proofs.Five.{Good, joined, lighted, one-moved, two-moved, three-moved}
 use Rattle.steps.proofs.Searches.{join-stands, join-can, none-joins, unlit-found, lowest-passes, lowest-direction}
 use Rattle.steps.proofs.Candidates.{Candidate, found-couple}
@@ -69,7 +69,7 @@ module _ (N : ℕ) (ks : List ℕ) (t : Channels) (c : Circuit) (rules : Rules N
 
     -- two old members
     old-old : (a b : Standing) (k : ℕ) → Stands m t a → Stands m t b → a .place < b .place → adjacent (a .circuit) (b .circuit) ≡ true
-        → Good N ks t c (rearranging N m t c a b k)
+        → Good N ks t c (rearranging N c (xOf N m t a b) a b k)
     old-old a b k sa sb l adj = go (standsRight N a b a) refl (standsRight N a b b) refl
       where
         x : Standing
@@ -88,7 +88,7 @@ module _ (N : ℕ) (ks : List ℕ) (t : Channels) (c : Circuit) (rules : Rules N
 
     -- an old member and the new circuit: the old one does not stand right, "since step 1 would have otherwise applied"
     old-new : (a : Standing) (k : ℕ) → Stands m t a → adjacent (a .circuit) c ≡ true
-        → Good N ks t c (rearranging N m t c a (newcomer c) k)
+        → Good N ks t c (rearranging N c (xOf N m t a (newcomer c)) a (newcomer c) k)
     old-new a k sa adj = go (standsRight N a (newcomer c) a) refl
       where
         x : Standing
@@ -101,12 +101,12 @@ module _ (N : ℕ) (ks : List ℕ) (t : Channels) (c : Circuit) (rules : Rules N
 
     -- two candidates by rising place
     rearranged : (a b : Standing) (k : ℕ) → Stands m t a → Candidate m t c b → Lower a b → adjacent (a .circuit) (b .circuit) ≡ true
-        → Good N ks t c (rearranging N m t c a b k)
+        → Good N ks t c (rearranging N c (xOf N m t a b) a b k)
     rearranged a b k sa (inl sb) l adj = old-old a b k sa sb l adj
     rearranged a b k sa (inr e) l adj = rw e (old-new a k sa (rw e at adj))
 
     -- the pair found is two such
-    by-rearranging : Good N ks t c (rearranging N m t c (foundPair m t c .0) (foundPair m t c .1) (looks m t c))
+    by-rearranging : Good N ks t c (stepThree N m t c)
     by-rearranging =
         let k = limits-hold N ks t rules in
         let found = ready N ks t c rules may .pair j u in
@@ -115,14 +115,12 @@ module _ (N : ℕ) (ks : List ℕ) (t : Channels) (c : Circuit) (rules : Rules N
         (found-passes adjacentPair (newcomer c, newcomer c) (pairsOf (candidates m t c)) found)
 
   -- the steps in their order
-  pub plan-good : Good N ks t c (planOf N (limitOf ks) t c)
-  plan-good = go (ltb (joinPlace N m t c) m) refl (ltb (unlitPlace N m t c) m) refl
+  pub plan-serves : Good N ks t c (planOf N (limitOf ks) t c)
+  unfolding planOf
+  plan-serves = go (ltb (joinPlace N m t c) m) refl (ltb (unlitPlace N m t c) m) refl
     where
-      rest : Plan
-      rest = rearranging N m t c (foundPair m t c .0) (foundPair m t c .1) (looks m t c)
-
       go : (o : Bool) → ltb (joinPlace N m t c) m ≡ o → (r : Bool) → ltb (unlitPlace N m t c) m ≡ r
-          → Good N ks t c (pick o (joining c (standingAt t (joinPlace N m t c))) (pick r (lighting c (unlitPlace N m t c)) rest))
+          → Good N ks t c (pick o (joining c (standingAt t (joinPlace N m t c))) (pick r (lighting c (unlitPlace N m t c)) (stepThree N m t c)))
       go true e r f = by-joining (ltb-true _ _ e)
       go false e true f = by-lighting (ltb-true _ _ f)
       go false e false f = by-rearranging (ltb-false _ _ e) (ltb-false _ _ f)

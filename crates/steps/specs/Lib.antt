@@ -1,5 +1,5 @@
--- The definitions of an opening, step by step; of closing; and of what both keep.
+-- The definitions of an opening, step by step; of following its records; and of what an opening or a closing keeps.
 pub mod Plan
 pub mod Steps
-pub mod Closing
+pub mod Following
 pub mod Kept

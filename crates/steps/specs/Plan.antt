@@ -1,6 +1,6 @@
 -- 01, "Opening a circuit": what each step does. A plan says which places get what, the place taken, the moves in their order and the looks.
 -- All listed circuits are taken down before any is set up, so a change says what a place holds at the end. The new
--- circuit is no move. Assumes nothing.
+-- circuit is no move. Assumes nothing. What `RingTable::open`, `decide` and `decide_valid` promise.
 use Prim.Native.Nat.{ℕ}
 use mathlib.Core.List.{List, [], _∷_}
 use Rattle.lightpath.specs.declared.Circuit.{Circuit}

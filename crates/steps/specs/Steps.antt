@@ -1,4 +1,5 @@
 -- 01, "Opening a circuit": steps 1 to 3, on the places t below the limit m of a ring of N nodes. Assumes nothing.
+-- What `RingTable::open`, `decide` and `decide_valid` promise.
 use Prim.Native.Nat.{ℕ, suc, _≤_, _<_}
 use mathlib.Core.Bool.{Bool, _&&_}
 use mathlib.Core.List.{List, [], _∷_, _++_}
@@ -6,6 +7,7 @@ use lib.Dec.{ltb}
 use lib.ListN.{length, getD}
 use Rattle.basis.specs.Choice.{pick}
 use Rattle.basis.specs.Search.{firstBelow, firstPlace, pairsOf}
+use Rattle.limits.specs.Limits.{placeCount}
 use Rattle.lightpath.specs.Place.{directionOf, sameDirection}
 use Rattle.lightpath.specs.declared.Direction.{Direction}
 use Rattle.lightpath.specs.Circuit.{canShare, shareDirection}
@@ -34,7 +36,7 @@ unlitPlace N m t c = firstBelow m (λ p. isUnlit (at t p))
 -- Step 3. Otherwise list the nonsharing circuits by rising place, the new one last. It has no place yet and is listed at 128, nowhere:
 
 abbrev pub nowhere : ℕ
-nowhere = 128
+nowhere = placeCount
 
 -- the new circuit as it is listed,
 abbrev pub newcomer : Circuit → Standing
@@ -80,24 +82,25 @@ xOf N m t a b = standingAt t (lowestAlone m t (shareDirection N (a .circuit) (b 
 abbrev pub exchanging : Circuit → Standing → Standing → Standing → ℕ → Plan
 exchanging c x a b k = pick (ltb (b .place) nowhere) (threeMoves c x a b k) (twoMoves c x a k)
 
--- step 3 with the pair a and b, found after k looks. 3a: the member that stands right stays; if both do, the lower place stays, which
+-- step 3 with the pair a and b, found after k looks, and x. 3a: the member that stands right stays; if both do, the lower place stays, which
 -- is a's, since a is listed first
-abbrev pub rearranging : ℕ → ℕ → Channels → Circuit → Standing → Standing → ℕ → Plan
-rearranging N m t c a b k =
-    pick (standsRight N a b a) (oneMove c a b k)
-    (pick (standsRight N a b b) (oneMove c b a k)
-    (exchanging c (xOf N m t a b) a b k))
+abbrev pub rearranging : ℕ → Circuit → Standing → Standing → Standing → ℕ → Plan
+rearranging N c x a b k = pick (standsRight N a b a) (oneMove c a b k) (pick (standsRight N a b b) (oneMove c b a k) (exchanging c x a b k))
+
+-- the plan of step 3
+abbrev pub stepThree : ℕ → ℕ → Channels → Circuit → Plan
+stepThree N m t c = rearranging N c (xOf N m t (foundPair m t c .0) (foundPair m t c .1)) (foundPair m t c .0) (foundPair m t c .1) (looks m t c)
 
 -- the first of the steps that serves the new circuit
-abbrev pub planOf : ℕ → ℕ → Channels → Circuit → Plan
+unfoldable pub planOf : ℕ → ℕ → Channels → Circuit → Plan
 planOf N m t c =
     pick (ltb (joinPlace N m t c) m) (joining c (standingAt t (joinPlace N m t c)))
     (pick (ltb (unlitPlace N m t c) m) (lighting c (unlitPlace N m t c))
-    (rearranging N m t c (foundPair m t c .0) (foundPair m t c .1) (looks m t c)))
+    (stepThree N m t c))
 
 -- the paper's two claims: where neither step 1 nor step 2 finds a place, there is an adjacent pair, and a nonsharing circuit each way round
 pub record Ready (N m : ℕ) (t : Channels) (c : Circuit) : Type 0 where
   pub nodes : 0 < N
-  pub low : m ≤ 128
+  pub low : m ≤ placeCount
   pub pair : m ≤ joinPlace N m t c → m ≤ unlitPlace N m t c → passed m t c < length (pairsOf (candidates m t c))
   pub lane : m ≤ joinPlace N m t c → m ≤ unlitPlace N m t c → (d : Direction) → lowestAlone m t d < m

@@ -6,9 +6,9 @@ use Prim.Native.Nat.{ℕ, zero, suc, _+_, _/_, _%_, _≤_, _<_}
 use native.Mathlib.Omega.{arith}
 use lib.Dec.{ltb}
 use borrow.Author.Tests.{lt-ltb, le-ltb, ltb-false}
-use Rattle.text.specs.Put.{Put, Room}
+use Rattle.buffer.specs.Put.{Put, Room}
 use Rattle.text.specs.Decimal.{digitsUpTo, decimal}
-use Rattle.text.proofs.Put.{put-put, room-front, room-rest}
+use Rattle.buffer.proofs.Put.{put-put, room-front, room-rest}
 
 -- any count that suffices gives the same digits
 enough : (k j n : ℕ) → n ≤ k → n ≤ j → digitsUpTo k n ≡ digitsUpTo j n

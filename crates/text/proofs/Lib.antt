@@ -1,5 +1,4 @@
--- The laws of text: writes, digits, reading a number, and reading back what was printed.
-pub mod Put
+-- The laws of text: digits, reading a number, and reading back what was printed.
 pub mod Decimal
 pub mod Reading
 pub mod Back

@@ -2,7 +2,7 @@
 use mathlib.Core.Path.{_≡_, refl, sym, _∙_}
 use mathlib.Core.Bool.{Bool, true, false}
 use mathlib.Core.List.{List, [], _∷_}
-use Prim.Native.Nat.{ℕ, _+_, _-_, _*_, _≤_, _<_}
+use Prim.Native.Nat.{ℕ, _+_, _-_, _*_, _/_, _≤_, _<_}
 use native.Mathlib.Omega.{arith}
 use native.Mathlib.Numerals.{add-one}
 use lib.Dec.{ltb}
@@ -58,13 +58,17 @@ module _ (most : ℕ) (word : List ℕ) (v i : ℕ) (q : Reading most word v i) 
       unfolding numberAfter
       more = q .is ∙ rw (drop-cons word i 0, le-leb 48 (getD word i 0) low, le-leb (getD word i 0) 57 high, add-one i)
 
-      pub reading-wide : most < v * 10 + (getD word i 0 - 48) → Missing ≡ number (most + 1) word
+      -- one more digit is too many: the tenfold is, or the digit is more than what is left
+      pub reading-tenfold : most / 10 < v → Missing ≡ number (most + 1) word
+      reading-tenfold w = sym (more ∙ too-wide (most + 1) _ (drop (i + 1) word) (omega arith))
+
+      pub reading-wide : most - v * 10 < getD word i 0 - 48 → Missing ≡ number (most + 1) word
       reading-wide w = sym (more ∙ too-wide (most + 1) _ (drop (i + 1) word) (omega arith))
 
-      pub reading-next : v * 10 + (getD word i 0 - 48) ≤ most → Reading most word (v * 10 + (getD word i 0 - 48)) (i + 1)
-      reading-next l = record { is = more; small = l }
+      pub reading-next : v ≤ most / 10 → getD word i 0 - 48 ≤ most - v * 10 → Reading most word (v * 10 + (getD word i 0 - 48)) (i + 1)
+      reading-next t l = record { is = more; small = omega arith }
 
-pub ruleset reading = (no-digit, reading-none, reading-end, reading-low, reading-high, reading-wide, reading-next)
+pub ruleset reading = (no-digit, reading-none, reading-end, reading-low, reading-high, reading-tenfold, reading-wide, reading-next)
 
 -- a number that was read is below the limit, and has a digit
 after-small : (limit v : ℕ) (s : List ℕ) (n : ℕ) → numberAfter limit v s ≡ Got n → n < limit

@@ -1,4 +1,4 @@
--- A quoted text as its bytes. Assumes nothing.
+-- A quoted text as its bytes. Assumes nothing. What the promises of `requests` and `print` quote words by.
 use Prim.Native.Nat.{ℕ}
 use Prim.Native.Char.{code}
 use Prim.Native.String.{String, [] as no-text, _∷_ as _then_}

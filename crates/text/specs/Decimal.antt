@@ -1,4 +1,4 @@
--- A number's decimal digits. Assumes nothing.
+-- A number's decimal digits. Assumes nothing. What `put_number` promises.
 use Prim.Native.Nat.{ℕ, zero, suc, _+_, _/_, _%_}
 use mathlib.Core.List.{List, [], _∷_, _++_}
 use lib.Dec.{ltb}

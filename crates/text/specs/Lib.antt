@@ -1,5 +1,4 @@
--- Texts and decimal numbers as bytes, and writing them into a lent buffer.
+-- Texts and decimal numbers as bytes.
 pub mod Bytes
 pub mod Decimal
 pub mod Number
-pub mod Put

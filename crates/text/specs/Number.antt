@@ -1,4 +1,5 @@
 -- The number that a word is: "leading zeros allowed", and one that is too wide for its field is none. Assumes nothing.
+-- What `read_number` promises.
 use Prim.Native.Nat.{ℕ, _+_, _-_, _*_}
 use mathlib.Core.Bool.{Bool, _&&_}
 use mathlib.Core.List.{List, [], _∷_}

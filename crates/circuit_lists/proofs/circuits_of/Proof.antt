@@ -1,21 +1,20 @@
 -- `circuit_lists::circuits_of` meets its contract. Assumes nothing.
-use mathlib.Core.Path.{refl, ap}
 use Prim.Native.Nat.{_*_, _-_, _≤_}
-use Rattle.slots.specs.Slot.{held}
-use Rattle.channels.specs.Channels.{at}
-use Rattle.circuit_lists.proofs.Gathering.{Gathered, gather-start, gather-none, gather-one, gather-two, gather-end, below-circuits}
 use borrow.Author.Needs.{needs}
+use Rattle.limits.specs.Limits.{placeCount, circuitRoom}
+use Rattle.circuit_lists.proofs.Gathering.{Gathered, circuitsAt, gatherCircuits}
 use Rattle.circuit_lists.proofs.circuits_of.Statement.{statement}
 use Rattle.circuit_lists.proofs.circuits_of.Tie as tie
 
+-- the first count of the list are the circuits of the places before p
 abbrev Inv-loop : tie.InvT-loop
-Inv-loop channels list₀ count₀ p₀ list count p = (p ≤ 128) × (count ≤ 2 * p) × Gathered (λ p. held (at channels p)) 256 list count p
+Inv-loop channels list₀ count₀ p₀ list count p = (p ≤ placeCount) × (count ≤ 2 * p) × Gathered (circuitsAt channels) circuitRoom list count p
 
 abbrev μ-loop : tie.MeasureT-loop
-μ-loop channels list₀ count₀ p₀ list count p = 128 - p
+μ-loop channels list₀ count₀ p₀ list count p = placeCount - p
 
 loop-holds : tie.Need-loop-holds Inv-loop μ-loop
-loop-holds c = (search needs, search needs, gather-start refl)
+loop-holds c = search (needs, gatherCircuits)
 
 mul-channel : tie.Need-mul-channel Inv-loop μ-loop
 mul-channel c = search needs
@@ -33,9 +32,7 @@ loop-less : tie.Need-loop-less Inv-loop μ-loop
 loop-less c = search needs
 
 loop-again : tie.Need-loop-again Inv-loop μ-loop
-loop-again c =
-    let done = c .before .before .before .before .loop .inv .2 in
-    (search needs, search needs, gather-none done (ap held (c .enum-told .given .1)))
+loop-again c = search (needs, gatherCircuits)
 
 enum-known-slot : tie.Need-enum-known-slot Inv-loop μ-loop
 enum-known-slot c = search needs
@@ -53,9 +50,7 @@ loop-less-2 : tie.Need-loop-less-2 Inv-loop μ-loop
 loop-less-2 c = search needs
 
 loop-again-2 : tie.Need-loop-again-2 Inv-loop μ-loop
-loop-again-2 c =
-    let done = c .before .before .before .before .before .loop .inv .2 in
-    (search needs, search needs, gather-one done (ap held (c .before .slot .given .1)) (search needs))
+loop-again-2 c = search (needs, gatherCircuits)
 
 enum-known-slot-2 : tie.Need-enum-known-slot-2 Inv-loop μ-loop
 enum-known-slot-2 c = search needs
@@ -82,12 +77,10 @@ loop-less-3 : tie.Need-loop-less-3 Inv-loop μ-loop
 loop-less-3 c = search needs
 
 loop-again-3 : tie.Need-loop-again-3 Inv-loop μ-loop
-loop-again-3 c =
-    let done = c .before .before .before .before .before .loop .inv .2 in
-    (search needs, search needs, gather-two done (ap held (c .before .slot2 .given .1)) (search needs))
+loop-again-3 c = search (needs, gatherCircuits)
 
 returns : tie.Need-returns Inv-loop μ-loop
-returns c = gather-end (c .before .loop .inv .2) (below-circuits (c .before .before .args .t1) (c .before .loop .p) (search needs)) (search needs) (search needs)
+returns c = search (needs, gatherCircuits)
 
 pub circuits-of-spec : {M : Type 1} → statement M
 circuits-of-spec =

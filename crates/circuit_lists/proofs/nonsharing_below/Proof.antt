@@ -1,20 +1,20 @@
 -- `circuit_lists::nonsharing_below` meets its contract. Assumes nothing.
-use mathlib.Core.Path.{refl, ap}
-use Rattle.channels.specs.Channels.{at}
-use Prim.Native.Nat.{_-_, _≤_}
-use Rattle.circuit_lists.proofs.Gathering.{Gathered, aloneAt, gather-start, gather-none, gather-one, gather-end, below-nonsharing}
+use Prim.Native.Nat.{_+_, _-_, _≤_}
 use borrow.Author.Needs.{needs}
+use Rattle.limits.specs.Limits.{placeCount}
+use Rattle.circuit_lists.proofs.Gathering.{Gathered, aloneAt, gatherAlone}
 use Rattle.circuit_lists.proofs.nonsharing_below.Statement.{statement}
 use Rattle.circuit_lists.proofs.nonsharing_below.Tie as tie
 
+-- the first count of the list are the nonsharing circuits of the places before p
 abbrev Inv-loop : tie.InvT-loop
-Inv-loop limit channels list₀ count₀ p₀ list count p = (p ≤ limit) × (count ≤ p) × Gathered (λ p. aloneAt p (at channels p)) 129 list count p
+Inv-loop limit channels list₀ count₀ p₀ list count p = (p ≤ limit) × (count ≤ p) × Gathered (aloneAt channels) (placeCount + 1) list count p
 
 abbrev μ-loop : tie.MeasureT-loop
 μ-loop limit channels list₀ count₀ p₀ list count p = limit - p
 
 loop-holds : tie.Need-loop-holds Inv-loop μ-loop
-loop-holds c = (search needs, search needs, gather-start refl)
+loop-holds c = search (needs, gatherAlone)
 
 mul-channel : tie.Need-mul-channel Inv-loop μ-loop
 mul-channel c = search needs
@@ -32,9 +32,7 @@ loop-less : tie.Need-loop-less Inv-loop μ-loop
 loop-less c = search needs
 
 loop-again : tie.Need-loop-again Inv-loop μ-loop
-loop-again c =
-    let done = c .before .before .before .before .loop .inv .2 in
-    (search needs, search needs, gather-none done (ap (aloneAt _) (c .enum-told .given .1)))
+loop-again c = search (needs, gatherAlone)
 
 enum-known-slot : tie.Need-enum-known-slot Inv-loop μ-loop
 enum-known-slot c = search needs
@@ -52,9 +50,7 @@ loop-less-2 : tie.Need-loop-less-2 Inv-loop μ-loop
 loop-less-2 c = search needs
 
 loop-again-2 : tie.Need-loop-again-2 Inv-loop μ-loop
-loop-again-2 c =
-    let done = c .before .before .before .before .before .loop .inv .2 in
-    (search needs, search needs, gather-one done (ap (aloneAt _) (c .before .slot .given .1)) (search needs))
+loop-again-2 c = search (needs, gatherAlone)
 
 enum-told-2 : tie.Need-enum-told-2 Inv-loop μ-loop
 enum-told-2 c = search needs
@@ -63,17 +59,10 @@ loop-less-3 : tie.Need-loop-less-3 Inv-loop μ-loop
 loop-less-3 c = search needs
 
 loop-again-3 : tie.Need-loop-again-3 Inv-loop μ-loop
-loop-again-3 c =
-    let done = c .before .before .before .before .loop .inv .2 in
-    (search needs, search needs, gather-none done (ap (aloneAt _) (c .enum-told2 .given .1)))
+loop-again-3 c = search (needs, gatherAlone)
 
 returns : tie.Need-returns Inv-loop μ-loop
-returns c =
-    gather-end
-    (c .before .loop .inv .2)
-    (below-nonsharing (c .before .before .args .t1) (c .before .loop .p) (c .before .before .args .limit) (search needs) (search needs))
-    (search needs)
-    (search needs)
+returns c = search (needs, gatherAlone)
 
 pub nonsharing-below-spec : {M : Type 1} → statement M
 nonsharing-below-spec =

@@ -1,6 +1,6 @@
 -- `decode::checked` meets its contract. Assumes nothing.
 use borrow.Author.Needs.{needs}
-use Rattle.decode.proofs.Whole.{judgedRules}
+use Rattle.decode.proofs.Stages.{judgedRules}
 use Rattle.decode.proofs.checked.Statement.{statement}
 use Rattle.decode.proofs.checked.Tie as tie
 

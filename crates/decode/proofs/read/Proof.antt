@@ -1,6 +1,6 @@
 -- `decode::read` meets its contract. Assumes nothing.
 use borrow.Author.Needs.{needs}
-use Rattle.decode.proofs.Whole.{ring-refused, writes-back, readRules}
+use Rattle.decode.proofs.Stages.{ring-refused, read-says, readRules}
 use Rattle.decode.proofs.read.Statement.{statement}
 use Rattle.decode.proofs.read.Tie as tie
 
@@ -18,13 +18,10 @@ read-places-requires c κs = search (needs, readRules)
 
 returns : tie.Need-returns
 returns c =
-    let answer = ring-refused _ _ _ (c .before .before .read-ring .ensures) (c .enum-told .given .1) in
-    (answer, writes-back _ (c .before .before .before .shared-slice-known .given) _ answer)
+    read-says _ (c .before .before .before .shared-slice-known .given) _ (ring-refused _ _ _ (c .before .before .read-ring .ensures) (c .enum-told .given .1))
 
 returns-2 : tie.Need-returns-2
-returns-2 c =
-    let answer = c .read-places .ensures in
-    (answer, writes-back _ (c .before .before .before .before .before .shared-slice-known .given) _ answer)
+returns-2 c = read-says _ (c .before .before .before .before .before .shared-slice-known .given) _ (c .read-places .ensures)
 
 pub read-spec : {M : Type 1} → statement M
 read-spec =

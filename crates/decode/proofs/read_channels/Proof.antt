@@ -1,14 +1,17 @@
 -- `decode::read_channels` meets its contract. Assumes nothing.
 use borrow.Author.Needs.{needs}
-use Rattle.decode.proofs.Whole.{endRules}
+use Rattle.decode.proofs.Stages.{endRules}
 use Rattle.decode.proofs.read_channels.Statement.{statement}
 use Rattle.decode.proofs.read_channels.Tie as tie
+
+add-start : tie.Need-add-start
+add-start c = search needs
 
 cast-start : tie.Need-cast-start
 cast-start c = search needs
 
-add-start : tie.Need-add-start
-add-start c = search needs
+add-start-2 : tie.Need-add-start-2
+add-start-2 c = search needs
 
 read-records-requires : tie.Need-read-records-requires
 read-records-requires c κs = search needs
@@ -41,8 +44,9 @@ pub read-channels-spec : {M : Type 1} → statement M
 read-channels-spec =
     tie.close
     (tie.spec
-    cast-start
     add-start
+    cast-start
+    add-start-2
     read-records-requires
     enum-known-verdict
     refused-requires

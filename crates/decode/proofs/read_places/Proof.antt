@@ -1,6 +1,6 @@
 -- `decode::read_places` meets its contract. Assumes nothing.
 use borrow.Author.Needs.{needs}
-use Rattle.decode.proofs.Whole.{placesRules}
+use Rattle.decode.proofs.Stages.{placesRules}
 use Rattle.decode.proofs.read_places.Statement.{statement}
 use Rattle.decode.proofs.read_places.Tie as tie
 

@@ -1,6 +1,7 @@
 -- `desk::run_line` meets its contract. Assumes nothing.
 use borrow.Author.Needs.{needs}
 use Rattle.requests.proofs.Few.{lending}
+use Rattle.desk.proofs.Opens.{opens}
 use Rattle.desk.proofs.Running.{line-run}
 use Rattle.desk.proofs.run_line.Statement.{statement}
 use Rattle.desk.proofs.run_line.Tie as tie
@@ -42,25 +43,25 @@ same-length : tie.Need-same-length
 same-length c = search needs
 
 returns : tie.Need-returns
-returns c = search (needs, line-run)
+returns c = search (needs, line-run, opens)
 
 same-length-2 : tie.Need-same-length-2
 same-length-2 c = search needs
 
 returns-2 : tie.Need-returns-2
-returns-2 c = search (needs, line-run)
+returns-2 c = search (needs, line-run, opens)
 
 same-length-3 : tie.Need-same-length-3
 same-length-3 c = search needs
 
 returns-3 : tie.Need-returns-3
-returns-3 c = search (needs, line-run)
+returns-3 c = search (needs, line-run, opens)
 
 same-length-4 : tie.Need-same-length-4
 same-length-4 c = search needs
 
 returns-4 : tie.Need-returns-4
-returns-4 c = search (needs, line-run)
+returns-4 c = search (needs, line-run, opens)
 
 pub run-line-spec : {M : Type 1} → statement M
 run-line-spec =

@@ -1,6 +1,6 @@
 -- `encode::put_form` meets its contract. Assumes nothing.
 use borrow.Author.Needs.{needs}
-use Rattle.encode.proofs.Whole.{formRules}
+use Rattle.encode.proofs.FormParts.{formRules}
 use Rattle.encode.proofs.put_form.Statement.{statement}
 use Rattle.encode.proofs.put_form.Tie as tie
 

@@ -1,4 +1,4 @@
--- `form_demo::print_bytes` meets its contract. Assumes nothing.
+-- `form_demo::print_bytes` meets its contract: the buffer keeps its length. Assumes nothing.
 use Prim.Native.Nat.{_-_}
 use mathlib.Core.Path.{_≡_}
 use lib.ListN.{length}
@@ -7,10 +7,10 @@ use Rattle.form_demo.proofs.print_bytes.Statement.{statement}
 use Rattle.form_demo.proofs.print_bytes.Tie as tie
 
 abbrev Inv-loop : tie.InvT-loop
-Inv-loop count buffer i₀ t5 t6 i = length buffer ≡ 30
+Inv-loop count buffer i₀ _ _ i = length buffer ≡ 1745
 
 abbrev μ-loop : tie.MeasureT-loop
-μ-loop count buffer i₀ t5 t6 i = 30 - i
+μ-loop count buffer i₀ _ _ i = 30 - i
 
 loop-holds : tie.Need-loop-holds Inv-loop μ-loop
 loop-holds c = search needs

@@ -1,4 +1,4 @@
--- `form_demo::read_cuts` meets its contract. Assumes nothing.
+-- `form_demo::read_cuts` meets its contract: the length is at most that of the form. Assumes nothing.
 use lib.Seq.{length-take-le}
 use Prim.Native.Nat.{_-_, _≤_}
 use mathlib.Core.Path.{_≡_, sym}
@@ -9,10 +9,10 @@ use Rattle.form_demo.proofs.read_cuts.Statement.{statement}
 use Rattle.form_demo.proofs.read_cuts.Tie as tie
 
 abbrev Inv-loop : tie.InvT-loop
-Inv-loop form length₀ t3 t4 length = (length ≤ 29) × (List·length form ≡ 29)
+Inv-loop form length₀ _ _ length = (length ≤ 29) × (List·length form ≡ 29)
 
 abbrev μ-loop : tie.MeasureT-loop
-μ-loop form length₀ t3 t4 length = 29 - length
+μ-loop form length₀ _ _ length = 29 - length
 
 loop-holds : tie.Need-loop-holds Inv-loop μ-loop
 loop-holds c = search needs

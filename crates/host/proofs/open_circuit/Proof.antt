@@ -3,7 +3,7 @@
 use Rattle.moves.proofs.Prelude.{_≡_, refl, ap, ℕ, List, [], _∷_, named, Val, URA, fullShare, SProp, ent, sep, emp, via, fst∗, snd∗, exE, id⊢, GName, ftrue, fat, flft, Memory, Routine, Heap, Calls, Loops, WpFn, Tables, FmC, fmOf, WpFn-mono, Atoms, sem, Fun, fact, givenOf, tables, tablesOf, Given, ‵, raw, some, later, _⊛_, _$_, _∵_, !, qed, by, move, keep, drop, use0, use1, use2, split, join, pick, rewrite, fsplit, fjoin, feqL, suffices, frame, await, done, enter, alloc1, alloc0, params1, pass1, pass0, free1, free0, look, init, store, forget, stop, fld, from, load, lit, addr, of-opd, and-then, no-more, assigns, land, returns, whole, sub, look-in, agg, RattleType, owns, Is, shows, nothing-lawful, unit, RefT, sliceVal, MutSlice, Room, Held, owned, nothing, only, facts, heard, yes, onEntry, Meets, tripleOf, Contract, Triple, calls-at, ensured, lasts, entered, cited, says, Stays, stay-none, walkOf, goes-none, Walks, ends-at, walked, walk-meets}
 use mathlib.Core.Bool.{true}
 use lib.Dec.{lit<}
-use lib.ListN.{replicate}
+use lib.ListN.{length, replicate}
 use mir.Syntax.{tyArray}
 use base.Fml.{flent}
 use types.Kit.{use3}
@@ -22,12 +22,14 @@ use Rattle.moves.specs.Records.{blank}
 use Rattle.moves.proofs.Walk.{made}
 use Rattle.moves.proofs.Move as N
 use Rattle.moves.proofs.Move.Laws as N′
+use Rattle.refusals.specs.Answer.{answerBy}
 use Rattle.ring.specs.declared.RingTable.{RingTable}
 use Rattle.ring.specs.declared.Opened.{Opened}
 use Rattle.ring.specs.Table.{meetsRules}
 use Rattle.ring.specs.Opening.{openOf, lentAfter}
-use Rattle.ring.specs.Demand3.{Demand3}
-use Rattle.ring.proofs.LocalArray.{array-lies, array-again}
+use Rattle.ring.specs.Answer.{openingAnswer}
+use Rattle.ring.specs.Demand3.{Demand3Lent}
+use Rattle.ring.specs.Numbers.{openReasons, openValues}
 use Rattle.ring.proofs.RingTable as T
 use Rattle.ring.proofs.RingTable.Laws as T′
 use Rattle.ring.proofs.Opened as O
@@ -36,6 +38,7 @@ use Rattle.ring.proofs.RingTable.«open» as open′
 use Rattle.ring.proofs.RingTable.«open».Symbol as open-def
 use Rattle.ring.proofs.RingTable.«open».Symbol.{name as #ring·open}
 use Rattle.ring.proofs.RingTable.«open».Met as open-thm
+use Rattle.host.proofs.LocalArray.{array-lies, array-again}
 use Rattle.host.proofs.records as records
 use Rattle.host.proofs.records.Symbol as records-def
 use Rattle.host.proofs.records.Symbol.{name as #host·records}
@@ -150,8 +153,11 @@ module _ {M : Type 1} (𝓤 : URA M) (H : Heap 𝓤) (A : Atoms 𝓤) (W : Given
   abbrev Last : List Move → Type 0
   Last zs = zs ≡ lentAfter t c lent
 
+  abbrev Numbers : Opened → Type 0
+  Numbers r = openingAnswer (r .answer) ≡ answerBy (openReasons t c (length lent)) (openValues t c)
+
   abbrev Demand : Opened → List Move → Type 0
-  Demand r zs = meetsRules t ≡ true → Demand3 t c lent r zs
+  Demand r zs = meetsRules t ≡ true → Demand3Lent t c lent r zs
 
   module _ (C : Calls 𝓤 H) (Λ : Loops 𝓤 H) (fm : FmC 𝓤 H (W .laws) C) (known-records : Triple 𝓤 (C #host·records) (Records 𝓤 H A mem run)) (known-open : Triple 𝓤 (C #ring·open) (Open 𝓤 H A mem run))
       (known-print : Triple 𝓤 (C #host·print-opening) (Print 𝓤 H A mem run)) where
@@ -178,7 +184,7 @@ module _ {M : Type 1} (𝓤 : URA M) (H : Heap 𝓤) (A : Atoms 𝓤) (W : Given
         move ! (2 ∷ 0 ∷ []) $ use2 W (raw (Open 𝓤 H A mem run .pre (to-open α l₃ γ))) (goes-open α l₃ γ) $
         calls-at ! fm (Open 𝓤 H A mem run) known-open (to-open α l₃ γ) (and-then ! (load ! (from ! (stop !)) (look ! 15 refl)) (and-then ! (load ! (from ! (stop !)) (look ! 13 refl)) (and-then ! (load ! (from ! (stop !)) (look ! 4 refl)) (no-more !)))) (λ w.
         use1 W (later (some (λ (r : Opened). ((‵ (flft (α ∷ []) fullShare) ⊛ ‵ ftrue) ⊛ ‵ (O.the-row .own r (w ∷ []))) ⊛ raw (ensured 𝓤 H A open′.ended (open′.clauses 𝓤 H A mem run) (α ∷ [], tt) (t, (c, (x l₃ γ, tt))) tt r)))) (id⊢ 𝓤 _) $ await ! tt $ pick ! (λ r.
-        split ! $ move ! (1 ∷ []) $ use1 W (some (λ (zs : Lasts). ‵ (lasts open′.ended (α ∷ [], tt) (t, (c, (x l₃ γ, tt))) zs) ⊛ (raw (fact 𝓤 (Answer r)) ⊛ (raw (fact 𝓤 (Last (last zs))) ⊛ raw (fact 𝓤 (Demand r (last zs))))))) (id⊢ 𝓤 _) $ pick ! (λ zs.
+        split ! $ move ! (1 ∷ []) $ use1 W (some (λ (zs : Lasts). ‵ (lasts open′.ended (α ∷ [], tt) (t, (c, (x l₃ γ, tt))) zs) ⊛ (raw (fact 𝓤 (Answer r)) ⊛ (raw (fact 𝓤 (Last (last zs))) ⊛ (raw (fact 𝓤 (Numbers r)) ⊛ raw (fact 𝓤 (Demand r (last zs)))))))) (id⊢ 𝓤 _) $ pick ! (λ zs.
         split ! $ move ! (1 ∷ []) $ split ! $ heard ! (Answer r) (λ answer. drop ! $
         fsplit ! $ drop ! $ fsplit ! $ drop ! $ fsplit ! $ fsplit ! $ move ! (1 ∷ []) $ feqL ! (λ l.
         -- [the last list; true; the token and the result; the lender's part; …]

@@ -5,15 +5,17 @@ use lib.ListN.{getD}
 use lib.Dec.{leb}
 use borrow.Author.Needs.{needs}
 use Rattle.basis.proofs.Scan.{Passed, scan}
+use Rattle.limits.specs.Limits.{portFields, mostPorts}
 use Rattle.ports.proofs.Counts.{each}
 use Rattle.ports.proofs.counts_hold.Statement.{statement}
 use Rattle.ports.proofs.counts_hold.Tie as tie
 
+-- the counts before i are within the limit
 abbrev Inv-loop : tie.InvT-loop
-Inv-loop ports i₀ i = (i ≤ 64) × Passed (λ (j : ℕ). leb (getD ports j 0) 64) true i
+Inv-loop ports i₀ i = (i ≤ portFields) × Passed (λ (j : ℕ). leb (getD ports j 0) mostPorts) true i
 
 abbrev μ-loop : tie.MeasureT-loop
-μ-loop ports i₀ i = 64 - i
+μ-loop ports i₀ i = portFields - i
 
 loop-holds : tie.Need-loop-holds Inv-loop μ-loop
 loop-holds c = search (needs, scan)

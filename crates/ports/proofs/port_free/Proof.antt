@@ -1,5 +1,6 @@
 -- `ports::port_free` meets its contract. Assumes nothing.
 use borrow.Author.Needs.{needs}
+use Rattle.ports.proofs.Counts.{used-below}
 use Rattle.ports.proofs.port_free.Statement.{statement}
 use Rattle.ports.proofs.port_free.Tie as tie
 
@@ -10,7 +11,7 @@ cast-result : tie.Need-cast-result
 cast-result c = search needs
 
 returns : tie.Need-returns
-returns c = rw (c .ports-of .ensures)
+returns c = search (needs, used-below)
 
 pub port-free-spec : {M : Type 1} → statement M
 port-free-spec = tie.close (tie.spec ports-of-requires cast-result returns)

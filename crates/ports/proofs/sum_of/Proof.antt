@@ -6,6 +6,7 @@ use Rattle.basis.proofs.Fold.{Summed, fold}
 use Rattle.ports.proofs.sum_of.Statement.{statement}
 use Rattle.ports.proofs.sum_of.Tie as tie
 
+-- the counts before i add up to sum, at most 255 each
 abbrev Inv-loop : tie.InvT-loop
 Inv-loop count ports sum₀ i₀ sum i = (i ≤ count) × (sum ≤ 255 * i) × Summed (λ j. getD ports j 0) i sum
 

@@ -1,6 +1,6 @@
 -- `ports_used::received_at` meets its contract. Assumes nothing.
-use native.Mathlib.Omega.{arith}
 use borrow.Author.Needs.{needs}
+use Rattle.ports_used.proofs.Counted.{counted}
 use Rattle.ports_used.proofs.received_at.Statement.{statement}
 use Rattle.ports_used.proofs.received_at.Tie as tie
 
@@ -29,10 +29,10 @@ returns : tie.Need-returns
 returns c = search needs
 
 returns-2 : tie.Need-returns-2
-returns-2 c = simp (c .before .before .before .slot .given .1) (omega arith)
+returns-2 c = search (needs, counted)
 
 returns-3 : tie.Need-returns-3
-returns-3 c = simp (c .before .before .before .before .before .slot2 .given .1) (omega arith)
+returns-3 c = search (needs, counted)
 
 pub received-at-spec : {M : Type 1} → statement M
 received-at-spec =

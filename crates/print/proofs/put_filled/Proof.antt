@@ -1,4 +1,5 @@
--- `print::put_filled` meets its contract: what is still to be printed is the words from i on. Assumes nothing.
+-- `print::put_filled` meets its contract. The loop's invariant: what is still to be printed is the words from i on, with the numbers
+-- left. Assumes nothing.
 use Prim.Native.Nat.{_-_}
 use lib.ListN.{length}
 use borrow.Author.Needs.{needs}

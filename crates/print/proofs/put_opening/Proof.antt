@@ -1,6 +1,6 @@
 -- `print::put_opening` meets its contract. Assumes nothing.
 use borrow.Author.Needs.{needs}
-use Rattle.text.proofs.Put.{put-put}
+use Rattle.buffer.proofs.Put.{put-put}
 use Rattle.print.proofs.put_opening.Statement.{statement}
 use Rattle.print.proofs.put_opening.Tie as tie
 

@@ -21,6 +21,9 @@ returns : tie.Need-returns
 unfolding parseClose
 returns c = search (needs, requests)
 
+cast-number : tie.Need-cast-number
+cast-number c = search (needs, requests)
+
 at-end-requires : tie.Need-at-end-requires
 at-end-requires c κs = search (needs, requests)
 
@@ -37,5 +40,6 @@ parse-close-spec =
     enum-told
     plain-requires
     returns
+    cast-number
     at-end-requires
     returns-2)

@@ -1,6 +1,6 @@
 -- `requests::parse_line` meets its contract, by the line's first word. Assumes nothing.
 use borrow.Author.Needs.{needs}
-use Rattle.requests.proofs.Whole.{lines}
+use Rattle.requests.proofs.FirstWord.{lines}
 use Rattle.requests.proofs.parse_line.Statement.{statement}
 use Rattle.requests.proofs.parse_line.Tie as tie
 

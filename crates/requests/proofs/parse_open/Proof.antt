@@ -69,14 +69,17 @@ returns-4 : tie.Need-returns-4
 unfolding parseOpen
 returns-4 c = search (needs, requests)
 
-cast-t19 : tie.Need-cast-t19
-cast-t19 c = search (needs, requests)
+cast-number : tie.Need-cast-number
+cast-number c = search (needs, requests)
 
-cast-t20 : tie.Need-cast-t20
-cast-t20 c = search (needs, requests)
+cast-source : tie.Need-cast-source
+cast-source c = search (needs, requests)
 
-cast-t21 : tie.Need-cast-t21
-cast-t21 c = search (needs, requests)
+cast-destination : tie.Need-cast-destination
+cast-destination c = search (needs, requests)
+
+cast-remark : tie.Need-cast-remark
+cast-remark c = search (needs, requests)
 
 at-end-requires : tie.Need-at-end-requires
 at-end-requires c κs = search (needs, requests)
@@ -109,8 +112,9 @@ parse-open-spec =
     enum-told-4
     plain-requires-4
     returns-4
-    cast-t19
-    cast-t20
-    cast-t21
+    cast-number
+    cast-source
+    cast-destination
+    cast-remark
     at-end-requires
     returns-5)

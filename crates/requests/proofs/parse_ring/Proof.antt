@@ -1,4 +1,4 @@
--- `requests::parse_ring` meets its contract: the ports read so far are those of the words up to the position. Assumes nothing.
+-- `requests::parse_ring` meets its contract. The loop's invariant: the ports read so far are those of the words up to the position. Assumes nothing.
 use Prim.Native.Nat.{_-_}
 use lib.ListN.{length}
 use borrow.Author.Needs.{needs}
@@ -63,8 +63,8 @@ loop-less c = search (needs, porting)
 loop-again : tie.Need-loop-again Inv-loop μ-loop
 loop-again c = search (needs, porting)
 
-cast-t19 : tie.Need-cast-t19 Inv-loop μ-loop
-cast-t19 c = search (needs, porting)
+cast-nodes : tie.Need-cast-nodes Inv-loop μ-loop
+cast-nodes c = search (needs, porting)
 
 returns-3 : tie.Need-returns-3 Inv-loop μ-loop
 returns-3 c = search (needs, porting)
@@ -91,5 +91,5 @@ parse-ring-spec =
     add-count
     loop-less
     loop-again
-    cast-t19
+    cast-nodes
     returns-3)

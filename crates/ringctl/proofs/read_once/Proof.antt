@@ -1,8 +1,6 @@
 -- `ringctl::read_once` meets its contract. Assumes nothing.
-use mathlib.Core.Path.{sym}
-use native.Mathlib.Omega.{arith}
-use lib.Seq.{length-take-le}
 use borrow.Author.Needs.{needs}
+use Rattle.ringctl.proofs.Turns.{writing}
 use Rattle.ringctl.proofs.read_once.Statement.{statement}
 use Rattle.ringctl.proofs.read_once.Tie as tie
 
@@ -12,32 +10,17 @@ slice-aggregate-read c = search needs
 read-requires : tie.Need-read-requires
 read-requires c κs = search needs
 
-slice-aggregate-count : tie.Need-slice-aggregate-count
-slice-aggregate-count c = search needs
+slice-aggregate-take-in : tie.Need-slice-aggregate-take-in
+slice-aggregate-take-in c = search needs
 
-count-requires : tie.Need-count-requires
-count-requires c κs = search needs
-
-input-ended-requires : tie.Need-input-ended-requires
-input-ended-requires c κs = search needs
-
-returns : tie.Need-returns
-returns c = search needs
-
-array-share-prefix-buffer : tie.Need-array-share-prefix-buffer
-array-share-prefix-buffer c = search needs
-
-slice-aggregate-feed : tie.Need-slice-aggregate-feed
-slice-aggregate-feed c = search needs
-
-feed-requires : tie.Need-feed-requires
-feed-requires c κs = search needs
+take-in-requires : tie.Need-take-in-requires
+take-in-requires c κs = search (needs, writing)
 
 slice-reshare-prefix-write-all : tie.Need-slice-reshare-prefix-write-all
-slice-reshare-prefix-write-all c = search needs
+slice-reshare-prefix-write-all c = search (needs, writing)
 
 slice-aggregate-write-all : tie.Need-slice-aggregate-write-all
-slice-aggregate-write-all c = sym (length-take-le _ _ (omega arith))
+slice-aggregate-write-all c = search (needs, writing)
 
 write-all-requires : tie.Need-write-all-requires
 write-all-requires c κs = search needs
@@ -45,14 +28,14 @@ write-all-requires c κs = search needs
 same-length : tie.Need-same-length
 same-length c = search needs
 
-returns-2 : tie.Need-returns-2
-returns-2 c = search needs
+returns : tie.Need-returns
+returns c = search (needs, writing)
 
 same-length-2 : tie.Need-same-length-2
 same-length-2 c = search needs
 
-returns-3 : tie.Need-returns-3
-returns-3 c = search needs
+returns-2 : tie.Need-returns-2
+returns-2 c = search (needs, writing)
 
 pub read-once-spec : {M : Type 1} → statement M
 read-once-spec =
@@ -60,17 +43,12 @@ read-once-spec =
     (tie.spec
     slice-aggregate-read
     read-requires
-    slice-aggregate-count
-    count-requires
-    input-ended-requires
-    returns
-    array-share-prefix-buffer
-    slice-aggregate-feed
-    feed-requires
+    slice-aggregate-take-in
+    take-in-requires
     slice-reshare-prefix-write-all
     slice-aggregate-write-all
     write-all-requires
     same-length
-    returns-2
+    returns
     same-length-2
-    returns-3)
+    returns-2)

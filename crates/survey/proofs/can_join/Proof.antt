@@ -1,6 +1,5 @@
 -- `survey::can_join` meets its contract. Assumes nothing.
-use borrow.Author.Tests.{not-false}
-use Rattle.basis.proofs.Branch.{branch}
+use Rattle.survey.proofs.Seen.{place}
 use borrow.Author.Needs.{needs}
 use Rattle.survey.proofs.can_join.Statement.{statement}
 use Rattle.survey.proofs.can_join.Tie as tie
@@ -9,10 +8,13 @@ is-alone-requires : tie.Need-is-alone-requires
 is-alone-requires c κs = search needs
 
 returns : tie.Need-returns
-returns c = search (needs, branch)
+returns c = search (needs, place)
 
-cast-t8 : tie.Need-cast-t8
-cast-t8 c = search needs
+returns-2 : tie.Need-returns-2
+returns-2 c = search (needs, place)
+
+cast-number : tie.Need-cast-number
+cast-number c = search needs
 
 direction-requires : tie.Need-direction-requires
 direction-requires c κs = search needs
@@ -23,15 +25,8 @@ first-requires c κs = search needs
 can-share-requires : tie.Need-can-share-requires
 can-share-requires c κs = search needs
 
-returns-2 : tie.Need-returns-2
-returns-2 c =
-    let alone = c .before .before .before .before .is-alone in
-    simp (
-      ← alone .ensures,
-      not-false (alone .result) (c .before .before .before .if1 .left),
-      ← c .before .before .direction .ensures,
-      ← c .before .first .ensures,
-    ) (c .can-share .ensures)
+returns-3 : tie.Need-returns-3
+returns-3 c = search (needs, place)
 
 pub can-join-spec : {M : Type 1} → statement M
 can-join-spec =
@@ -39,8 +34,9 @@ can-join-spec =
     (tie.spec
     is-alone-requires
     returns
-    cast-t8
+    returns-2
+    cast-number
     direction-requires
     first-requires
     can-share-requires
-    returns-2)
+    returns-3)

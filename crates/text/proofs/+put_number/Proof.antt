@@ -4,7 +4,7 @@ use borrow.Author.Needs.{needs}
 use borrow.Fn.Kinds.{In}
 use borrow.Fn.PlainCycle.{Measures, is, falls, and}
 use Rattle.text.proofs.Decimal.{decimals}
-use Rattle.text.proofs.put_byte.Reads as put-byte
+use Rattle.buffer.proofs.put_byte.Reads as put-byte
 use Rattle.text.proofs.put_number.Reads as put-number
 use Rattle.text.proofs.put_number.Kinds as kinds
 use Rattle.text.proofs.+put_number.Lts-put_number as lts

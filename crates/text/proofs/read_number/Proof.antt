@@ -1,4 +1,4 @@
--- `text::read_number` meets its contract: the digits read so far have the value, which is at most the most. Assumes nothing.
+-- `text::read_number` meets its contract. The loop's invariant: the bytes before i are digits, of the value, which is at most the most. Assumes nothing.
 use Prim.Native.Nat.{_-_}
 use lib.ListN.{length}
 use borrow.Author.Needs.{needs}
@@ -18,8 +18,8 @@ returns c = search (needs, reading)
 loop-holds : tie.Need-loop-holds Inv-loop μ-loop
 loop-holds c = search (needs, reading)
 
-shared-slice-read-digit : tie.Need-shared-slice-read-digit Inv-loop μ-loop
-shared-slice-read-digit c = search (needs, reading)
+shared-slice-read-byte : tie.Need-shared-slice-read-byte Inv-loop μ-loop
+shared-slice-read-byte c = search (needs, reading)
 
 returns-2 : tie.Need-returns-2 Inv-loop μ-loop
 returns-2 c = search (needs, reading)
@@ -27,17 +27,26 @@ returns-2 c = search (needs, reading)
 returns-3 : tie.Need-returns-3 Inv-loop μ-loop
 returns-3 c = search (needs, reading)
 
-mul-value : tie.Need-mul-value Inv-loop μ-loop
-mul-value c = search (needs, reading)
-
-cast-value : tie.Need-cast-value Inv-loop μ-loop
-cast-value c = search (needs, reading)
-
-add-value : tie.Need-add-value Inv-loop μ-loop
-add-value c = search (needs, reading)
+cast-digit : tie.Need-cast-digit Inv-loop μ-loop
+cast-digit c = search (needs, reading)
 
 returns-4 : tie.Need-returns-4 Inv-loop μ-loop
 returns-4 c = search (needs, reading)
+
+mul-if5 : tie.Need-mul-if5 Inv-loop μ-loop
+mul-if5 c = search (needs, reading)
+
+sub-if5 : tie.Need-sub-if5 Inv-loop μ-loop
+sub-if5 c = search (needs, reading)
+
+returns-5 : tie.Need-returns-5 Inv-loop μ-loop
+returns-5 c = search (needs, reading)
+
+mul-value : tie.Need-mul-value Inv-loop μ-loop
+mul-value c = search (needs, reading)
+
+add-value : tie.Need-add-value Inv-loop μ-loop
+add-value c = search (needs, reading)
 
 add-i : tie.Need-add-i Inv-loop μ-loop
 add-i c = search (needs, reading)
@@ -48,11 +57,8 @@ loop-less c = search (needs, reading)
 loop-again : tie.Need-loop-again Inv-loop μ-loop
 loop-again c = search (needs, reading)
 
-cast-t14 : tie.Need-cast-t14 Inv-loop μ-loop
-cast-t14 c = search (needs, reading)
-
-returns-5 : tie.Need-returns-5 Inv-loop μ-loop
-returns-5 c = search (needs, reading)
+returns-6 : tie.Need-returns-6 Inv-loop μ-loop
+returns-6 c = search (needs, reading)
 
 pub read-number-spec : {M : Type 1} → statement M
 read-number-spec =
@@ -62,15 +68,17 @@ read-number-spec =
     μ-loop
     returns
     loop-holds
-    shared-slice-read-digit
+    shared-slice-read-byte
     returns-2
     returns-3
-    mul-value
-    cast-value
-    add-value
+    cast-digit
     returns-4
+    mul-if5
+    sub-if5
+    returns-5
+    mul-value
+    add-value
     add-i
     loop-less
     loop-again
-    cast-t14
-    returns-5)
+    returns-6)

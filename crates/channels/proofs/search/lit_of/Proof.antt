@@ -1,9 +1,8 @@
--- `channels::search::lit_of` meets its contract. Assumes nothing.
+-- `channels::search::lit_of` meets its contract. The loop's invariant: the words hold the lit places from `p` on. Assumes nothing.
 use Prim.Native.Nat.{_≤_}
-use Rattle.lit_words.proofs.Words.{Built, built-start, built-room, built-next, built-end}
+use Rattle.lit_words.proofs.Built.{Built, built}
 use Rattle.channels.specs.Channels.{litAt}
 use borrow.Author.Needs.{needs}
-use native.Mathlib.Omega.{arith}
 use Rattle.channels.proofs.search.lit_of.Statement.{statement}
 use Rattle.channels.proofs.search.lit_of.Tie as tie
 
@@ -14,31 +13,37 @@ abbrev μ-loop : tie.MeasureT-loop
 μ-loop channels lit₀ p₀ lit p = p
 
 loop-holds : tie.Need-loop-holds Inv-loop μ-loop
-loop-holds c = (search needs, built-start 128 (search needs) (λ p l k. absurd (omega arith)))
+loop-holds c = search (needs, built)
 
 sub-p : tie.Need-sub-p Inv-loop μ-loop
-sub-p c = search needs
+sub-p c = search (needs, built)
 
 mul-channel : tie.Need-mul-channel Inv-loop μ-loop
-mul-channel c = search needs
+mul-channel c = search (needs, built)
 
 array-copy-out-channel : tie.Need-array-copy-out-channel Inv-loop μ-loop
-array-copy-out-channel c = search needs
+array-copy-out-channel c = search (needs, built)
 
 is-lit-requires : tie.Need-is-lit-requires Inv-loop μ-loop
-is-lit-requires c κs = search needs
+is-lit-requires c κs = search (needs, built)
 
-under-requires : tie.Need-under-requires Inv-loop μ-loop
-under-requires c κs = built-room _ _ (c .before .before .before .loop .inv .1) (search needs)
+with-requires : tie.Need-with-requires Inv-loop μ-loop
+with-requires c κs = search (needs, built)
 
 loop-less : tie.Need-loop-less Inv-loop μ-loop
-loop-less c = search needs
+loop-less c = search (needs, built)
 
 loop-again : tie.Need-loop-again Inv-loop μ-loop
-loop-again c = (search needs, built-next _ _ (c .before .before .before .before .loop .inv .1) (search needs) _ _ (search needs) (c .before .is-lit .ensures) (c .under .ensures))
+loop-again c = search (needs, built)
+
+loop-less-2 : tie.Need-loop-less-2 Inv-loop μ-loop
+loop-less-2 c = search (needs, built)
+
+loop-again-2 : tie.Need-loop-again-2 Inv-loop μ-loop
+loop-again-2 c = search (needs, built)
 
 returns : tie.Need-returns Inv-loop μ-loop
-returns c = built-end _ _ (c .before .loop .inv .1) (search needs)
+returns c = search (needs, built)
 
 pub lit-of-spec : {M : Type 1} → statement M
 lit-of-spec =
@@ -51,7 +56,9 @@ lit-of-spec =
     mul-channel
     array-copy-out-channel
     is-lit-requires
-    under-requires
+    with-requires
     loop-less
     loop-again
+    loop-less-2
+    loop-again-2
     returns)

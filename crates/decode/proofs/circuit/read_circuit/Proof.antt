@@ -10,32 +10,20 @@ sub-if1 c = search needs
 returns : tie.Need-returns
 returns c = search (needs, circuitRules)
 
-shared-slice-read-number-of-four : tie.Need-shared-slice-read-number-of-four
-shared-slice-read-number-of-four c = search needs
+add-ends : tie.Need-add-ends
+add-ends c = search needs
 
-add-number-of-four : tie.Need-add-number-of-four
-add-number-of-four c = search needs
+sub-number-of : tie.Need-sub-number-of
+sub-number-of c = search needs
 
-shared-slice-read-number-of-four-2 : tie.Need-shared-slice-read-number-of-four-2
-shared-slice-read-number-of-four-2 c = search needs
+part-number-of-start : tie.Need-part-number-of-start
+part-number-of-start c = search needs
 
-add-number-of-four-2 : tie.Need-add-number-of-four-2
-add-number-of-four-2 c = search needs
+part-number-of-end : tie.Need-part-number-of-end
+part-number-of-end c = search needs
 
-shared-slice-read-number-of-four-3 : tie.Need-shared-slice-read-number-of-four-3
-shared-slice-read-number-of-four-3 c = search needs
-
-add-number-of-four-3 : tie.Need-add-number-of-four-3
-add-number-of-four-3 c = search needs
-
-shared-slice-read-number-of-four-4 : tie.Need-shared-slice-read-number-of-four-4
-shared-slice-read-number-of-four-4 c = search needs
-
-number-of-four-requires : tie.Need-number-of-four-requires
-number-of-four-requires c κs = search needs
-
-add-source : tie.Need-add-source
-add-source c = search needs
+number-of-requires : tie.Need-number-of-requires
+number-of-requires c κs = search needs
 
 shared-slice-read-source : tie.Need-shared-slice-read-source
 shared-slice-read-source c = search needs
@@ -46,17 +34,20 @@ add-destination c = search needs
 shared-slice-read-destination : tie.Need-shared-slice-read-destination
 shared-slice-read-destination c = search needs
 
-add-read-remark : tie.Need-add-read-remark
-add-read-remark c = search needs
+add-read-optional : tie.Need-add-read-optional
+add-read-optional c = search needs
 
-read-remark-requires : tie.Need-read-remark-requires
-read-remark-requires c κs = search needs
+read-optional-requires : tie.Need-read-optional-requires
+read-optional-requires c κs = search needs
 
 enum-known-refusal : tie.Need-enum-known-refusal
 enum-known-refusal c = search needs
 
 enum-known-remark : tie.Need-enum-known-remark
 enum-known-remark c = search needs
+
+cast-remark : tie.Need-cast-remark
+cast-remark c = search (needs, circuitRules)
 
 returns-2 : tie.Need-returns-2
 returns-2 c = search (needs, circuitRules)
@@ -70,21 +61,18 @@ read-circuit-spec =
     (tie.spec
     sub-if1
     returns
-    shared-slice-read-number-of-four
-    add-number-of-four
-    shared-slice-read-number-of-four-2
-    add-number-of-four-2
-    shared-slice-read-number-of-four-3
-    add-number-of-four-3
-    shared-slice-read-number-of-four-4
-    number-of-four-requires
-    add-source
+    add-ends
+    sub-number-of
+    part-number-of-start
+    part-number-of-end
+    number-of-requires
     shared-slice-read-source
     add-destination
     shared-slice-read-destination
-    add-read-remark
-    read-remark-requires
+    add-read-optional
+    read-optional-requires
     enum-known-refusal
     enum-known-remark
+    cast-remark
     returns-2
     returns-3)

@@ -1,7 +1,7 @@
--- `decode::map::read_word` meets its contract. Assumes nothing.
+-- `decode::map::read_word` meets its contract: of the eight bytes those from `left` on are in the word. Assumes nothing.
 use Prim.Native.Nat.{_≤_}
 use borrow.Author.Needs.{needs}
-use Rattle.decode.proofs.Words.{Gathered, gathered}
+use Rattle.decode.proofs.MapWords.{Gathered, gathered}
 use Rattle.decode.proofs.map.read_word.Statement.{statement}
 use Rattle.decode.proofs.map.read_word.Tie as tie
 

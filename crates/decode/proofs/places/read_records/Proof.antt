@@ -1,4 +1,4 @@
--- `decode::places::read_records` meets its contract. Assumes nothing.
+-- `decode::places::read_records` meets its contract: the records of the places before this one are read into the channels, and the next is at `at`. Assumes nothing.
 use Prim.Native.Nat.{_-_, _≤_}
 use borrow.Author.Needs.{needs}
 use Rattle.lit_words.specs.Lit.{litBit}
@@ -12,6 +12,9 @@ Inv-loop form start lit channels₀ at₀ place₀ channels at place = (place �
 abbrev μ-loop : tie.MeasureT-loop
 μ-loop form start lit channels₀ at₀ place₀ channels at place = 128 - place
 
+unlit-channels-requires : tie.Need-unlit-channels-requires Inv-loop μ-loop
+unlit-channels-requires c κs = search needs
+
 loop-holds : tie.Need-loop-holds Inv-loop μ-loop
 loop-holds c = search (needs, listing)
 
@@ -20,6 +23,9 @@ read-content-requires c κs = search needs
 
 enum-known-refusal : tie.Need-enum-known-refusal Inv-loop μ-loop
 enum-known-refusal c = search needs
+
+no-records-requires : tie.Need-no-records-requires Inv-loop μ-loop
+no-records-requires c κs = search needs
 
 returns : tie.Need-returns Inv-loop μ-loop
 returns c = search (needs, listing)
@@ -51,9 +57,11 @@ read-records-spec =
     (tie.spec
     Inv-loop
     μ-loop
+    unlit-channels-requires
     loop-holds
     read-content-requires
     enum-known-refusal
+    no-records-requires
     returns
     enum-known-slot
     mul-channels

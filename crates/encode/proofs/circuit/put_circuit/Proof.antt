@@ -4,8 +4,8 @@ use Rattle.encode.proofs.Circuits.{circuitRules}
 use Rattle.encode.proofs.circuit.put_circuit.Statement.{statement}
 use Rattle.encode.proofs.circuit.put_circuit.Tie as tie
 
-put-four-requires : tie.Need-put-four-requires
-put-four-requires c κs = search (needs, circuitRules)
+put-number-requires : tie.Need-put-number-requires
+put-number-requires c κs = search (needs, circuitRules)
 
 put-byte-requires : tie.Need-put-byte-requires
 put-byte-requires c κs = search (needs, circuitRules)
@@ -13,8 +13,11 @@ put-byte-requires c κs = search (needs, circuitRules)
 put-byte-requires-2 : tie.Need-put-byte-requires-2
 put-byte-requires-2 c κs = search (needs, circuitRules)
 
-put-remark-requires : tie.Need-put-remark-requires
-put-remark-requires c κs = search (needs, circuitRules)
+cast-put-optional : tie.Need-cast-put-optional
+cast-put-optional c = search needs
+
+put-optional-requires : tie.Need-put-optional-requires
+put-optional-requires c κs = search (needs, circuitRules)
 
 same-length : tie.Need-same-length
 same-length c = search needs
@@ -26,9 +29,10 @@ pub put-circuit-spec : {M : Type 1} → statement M
 put-circuit-spec =
     tie.close
     (tie.spec
-    put-four-requires
+    put-number-requires
     put-byte-requires
     put-byte-requires-2
-    put-remark-requires
+    cast-put-optional
+    put-optional-requires
     same-length
     returns)

@@ -1,14 +1,21 @@
 -- `encode::length::circuit_length` meets its contract. Assumes nothing.
 use borrow.Author.Needs.{needs}
-use Rattle.encode.proofs.Lengths.{lengths}
+use Rattle.encode.proofs.Lengths.{circuit-long}
 use Rattle.encode.proofs.length.circuit_length.Statement.{statement}
 use Rattle.encode.proofs.length.circuit_length.Tie as tie
 
-returns : tie.Need-returns
-returns c = search (needs, lengths)
+cast-optional-length : tie.Need-cast-optional-length
+cast-optional-length c = search needs
 
-returns-2 : tie.Need-returns-2
-returns-2 c = search (needs, lengths)
+optional-length-requires : tie.Need-optional-length-requires
+optional-length-requires c κs = search needs
+
+add-result : tie.Need-add-result
+add-result c = search needs
+
+returns : tie.Need-returns
+returns c = search (needs, circuit-long)
 
 pub circuit-length-spec : {M : Type 1} → statement M
-circuit-length-spec = tie.close (tie.spec returns returns-2)
+circuit-length-spec =
+    tie.close (tie.spec cast-optional-length optional-length-requires add-result returns)

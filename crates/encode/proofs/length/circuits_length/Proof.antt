@@ -1,4 +1,4 @@
--- `encode::length::circuits_length` meets its contract. Assumes nothing.
+-- `encode::length::circuits_length` meets its contract: the circuits of the places before this one take `sum` bytes. Assumes nothing.
 use Prim.Native.Nat.{_-_, _≤_}
 use borrow.Author.Needs.{needs}
 use Rattle.encode.proofs.Lengths.{Measured, measured}

@@ -1,6 +1,6 @@
 -- `encode::map::put_map` meets its contract. Assumes nothing.
 use borrow.Author.Needs.{needs}
-use Rattle.encode.proofs.Words.{wordsRules}
+use Rattle.encode.proofs.MapWords.{wordsRules}
 use Rattle.encode.proofs.map.put_map.Statement.{statement}
 use Rattle.encode.proofs.map.put_map.Tie as tie
 

@@ -1,7 +1,7 @@
--- `encode::map::put_word` meets its contract. Assumes nothing.
+-- `encode::map::put_word` meets its contract: the bytes of the word from this one on, which are those of `rest`, are still to be written. Assumes nothing.
 use Prim.Native.Nat.{_-_, _≤_}
 use borrow.Author.Needs.{needs}
-use Rattle.encode.proofs.Words.{Wording, wording}
+use Rattle.encode.proofs.MapWords.{Wording, wording}
 use Rattle.encode.proofs.map.put_word.Statement.{statement}
 use Rattle.encode.proofs.map.put_word.Tie as tie
 

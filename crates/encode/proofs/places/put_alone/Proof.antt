@@ -4,8 +4,8 @@ use Rattle.encode.proofs.Records.{aloneRules}
 use Rattle.encode.proofs.places.put_alone.Statement.{statement}
 use Rattle.encode.proofs.places.put_alone.Tie as tie
 
-mark-requires : tie.Need-mark-requires
-mark-requires c κs = search needs
+alone-map-requires : tie.Need-alone-map-requires
+alone-map-requires c κs = search needs
 
 put-byte-requires : tie.Need-put-byte-requires
 put-byte-requires c κs = search (needs, aloneRules)
@@ -21,4 +21,4 @@ returns c = search (needs, aloneRules)
 
 pub put-alone-spec : {M : Type 1} → statement M
 put-alone-spec =
-    tie.close (tie.spec mark-requires put-byte-requires put-circuit-requires same-length returns)
+    tie.close (tie.spec alone-map-requires put-byte-requires put-circuit-requires same-length returns)

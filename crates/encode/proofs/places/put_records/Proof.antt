@@ -1,4 +1,4 @@
--- `encode::places::put_records` meets its contract. Assumes nothing.
+-- `encode::places::put_records` meets its contract: the records of the places from this one on are still to be written. Assumes nothing.
 use Prim.Native.Nat.{_-_, _≤_}
 use borrow.Author.Needs.{needs}
 use Rattle.encode.proofs.Records.{Recording, recording}

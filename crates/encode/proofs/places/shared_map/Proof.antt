@@ -4,14 +4,20 @@ use Rattle.encode.proofs.Records.{shared-map}
 use Rattle.encode.proofs.places.shared_map.Statement.{statement}
 use Rattle.encode.proofs.places.shared_map.Tie as tie
 
-mark-requires : tie.Need-mark-requires
-mark-requires c κs = search needs
+cast-present : tie.Need-cast-present
+cast-present c = search needs
+
+present-requires : tie.Need-present-requires
+present-requires c κs = search needs
 
 add-result : tie.Need-add-result
 add-result c = search needs
 
-mark-requires-2 : tie.Need-mark-requires-2
-mark-requires-2 c κs = search needs
+cast-present-2 : tie.Need-cast-present-2
+cast-present-2 c = search needs
+
+present-requires-2 : tie.Need-present-requires-2
+present-requires-2 c κs = search needs
 
 mul-result : tie.Need-mul-result
 mul-result c = search needs
@@ -24,4 +30,13 @@ returns c = search (needs, shared-map)
 
 pub shared-map-spec : {M : Type 1} → statement M
 shared-map-spec =
-    tie.close (tie.spec mark-requires add-result mark-requires-2 mul-result add-result-2 returns)
+    tie.close
+    (tie.spec
+    cast-present
+    present-requires
+    add-result
+    cast-present-2
+    present-requires-2
+    mul-result
+    add-result-2
+    returns)

@@ -1,8 +1,6 @@
 -- `lightpath::Circuit::can_share` meets its contract. Assumes nothing.
 use borrow.Author.Needs.{needs}
-use borrow.Author.Tests.{not-false}
-use Rattle.basis.proofs.Branch.{branch}
-use Rattle.lightpath.proofs.Share.{apart-never}
+use Rattle.lightpath.proofs.Answers.{sharing}
 use Rattle.lightpath.proofs.Circuit.can_share.Statement.{statement}
 use Rattle.lightpath.proofs.Circuit.can_share.Tie as tie
 
@@ -10,7 +8,7 @@ adjacent-requires : tie.Need-adjacent-requires
 adjacent-requires c κs = search needs
 
 returns : tie.Need-returns
-returns c = search (needs, branch, apart-never)
+returns c = search (needs, sharing)
 
 hops-requires : tie.Need-hops-requires
 hops-requires c κs = search needs
@@ -28,28 +26,10 @@ enum-told-2 : tie.Need-enum-told-2
 enum-told-2 c = search needs
 
 returns-2 : tie.Need-returns-2
-returns-2 c =
-    let hops = c .before .before in
-    let asked = hops .before .before in
-    simp (
-      c .enum-told .given .1,
-      ← asked .before .adjacent .ensures,
-      not-false (asked .before .adjacent .result) (asked .if1 .left),
-      ← hops .before .hops .ensures .0,
-      ← hops .hops2 .ensures .0,
-    )
+returns-2 c = search (needs, sharing)
 
 returns-3 : tie.Need-returns-3
-returns-3 c =
-    let hops = c .before .before in
-    let asked = hops .before .before in
-    simp (
-      c .enum-told2 .given .1,
-      ← asked .before .adjacent .ensures,
-      not-false (asked .before .adjacent .result) (asked .if1 .left),
-      ← hops .before .hops .ensures .0,
-      ← hops .hops2 .ensures .0,
-    )
+returns-3 c = search (needs, sharing)
 
 pub can-share-spec : {M : Type 1} → statement M
 can-share-spec =

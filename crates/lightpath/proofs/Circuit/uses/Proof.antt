@@ -1,5 +1,6 @@
 -- `lightpath::Circuit::uses` meets its contract. Assumes nothing.
 use borrow.Author.Needs.{needs}
+use Rattle.lightpath.proofs.Answers.{passing}
 use Rattle.lightpath.proofs.Circuit.uses.Statement.{statement}
 use Rattle.lightpath.proofs.Circuit.uses.Tie as tie
 
@@ -16,10 +17,10 @@ enum-told-2 : tie.Need-enum-told-2
 enum-told-2 c = search needs
 
 returns : tie.Need-returns
-returns c = simp (c .enum-told .given .1, ← c .before .before .hops .ensures .0, ← c .before .before .before .links-ahead .ensures .0)
+returns c = search (needs, passing)
 
 returns-2 : tie.Need-returns-2
-returns-2 c = simp (c .enum-told2 .given .1, ← c .before .before .hops .ensures .0, ← c .before .before .before .links-ahead .ensures .0)
+returns-2 c = search (needs, passing)
 
 pub uses-spec : {M : Type 1} → statement M
 uses-spec =

@@ -1,6 +1,6 @@
 -- `lightpath::Wavelength::place` meets its contract. Assumes nothing.
-use native.Mathlib.Omega.{arith}
 use borrow.Author.Needs.{needs}
+use Rattle.lightpath.proofs.Answers.{places}
 use Rattle.lightpath.proofs.Wavelength.place.Statement.{statement}
 use Rattle.lightpath.proofs.Wavelength.place.Tie as tie
 
@@ -20,10 +20,10 @@ add-t6 : tie.Need-add-t6
 add-t6 c = search needs
 
 returns : tie.Need-returns
-returns c = simp (c .before .enum-told .given .1) (omega arith)
+returns c = search (needs, places)
 
 returns-2 : tie.Need-returns-2
-returns-2 c = simp (c .before .enum-told2 .given .1)
+returns-2 c = search (needs, places)
 
 pub place-spec : {M : Type 1} → statement M
 place-spec = tie.close (tie.spec enum-told mul-t4 enum-told-2 mul-t5 add-t6 returns returns-2)

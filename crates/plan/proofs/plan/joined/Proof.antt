@@ -1,5 +1,5 @@
 -- `plan::plan::joined` meets its contract. Assumes nothing.
-use Rattle.channels.proofs.Puts.{placed}
+use Rattle.plan.proofs.Made.{made}
 use borrow.Author.Needs.{needs}
 use Rattle.plan.proofs.plan.joined.Statement.{statement}
 use Rattle.plan.proofs.plan.joined.Tie as tie
@@ -10,14 +10,15 @@ together-requires c κs = search needs
 one-requires : tie.Need-one-requires
 one-requires c κs = search needs
 
-cast-t7 : tie.Need-cast-t7
-cast-t7 c = search needs
-
 none-requires : tie.Need-none-requires
 none-requires c κs = search needs
 
+taking-requires : tie.Need-taking-requires
+taking-requires c κs = search needs
+
 returns : tie.Need-returns
-returns c = (rw (c .none .ensures, c .before .one .ensures, c .before .before .together .ensures), search (needs, placed))
+returns c = search (needs, made)
 
 pub joined-spec : {M : Type 1} → statement M
-joined-spec = tie.close (tie.spec together-requires one-requires cast-t7 none-requires returns)
+joined-spec =
+    tie.close (tie.spec together-requires one-requires none-requires taking-requires returns)

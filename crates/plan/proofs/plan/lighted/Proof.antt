@@ -1,5 +1,5 @@
 -- `plan::plan::lighted` meets its contract. Assumes nothing.
-use Rattle.channels.proofs.Puts.{placed}
+use Rattle.plan.proofs.Made.{made}
 use borrow.Author.Needs.{needs}
 use Rattle.plan.proofs.plan.lighted.Statement.{statement}
 use Rattle.plan.proofs.plan.lighted.Tie as tie
@@ -7,14 +7,14 @@ use Rattle.plan.proofs.plan.lighted.Tie as tie
 one-requires : tie.Need-one-requires
 one-requires c κs = search needs
 
-cast-t6 : tie.Need-cast-t6
-cast-t6 c = search needs
-
 none-requires : tie.Need-none-requires
 none-requires c κs = search needs
 
+taking-requires : tie.Need-taking-requires
+taking-requires c κs = search needs
+
 returns : tie.Need-returns
-returns c = (rw (c .none .ensures, c .before .one .ensures), search (needs, placed))
+returns c = search (needs, made)
 
 pub lighted-spec : {M : Type 1} → statement M
-lighted-spec = tie.close (tie.spec one-requires cast-t6 none-requires returns)
+lighted-spec = tie.close (tie.spec one-requires none-requires taking-requires returns)

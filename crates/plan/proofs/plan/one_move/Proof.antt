@@ -1,5 +1,5 @@
 -- `plan::plan::one_move` meets its contract. Assumes nothing.
-use Rattle.channels.proofs.Puts.{placed}
+use Rattle.plan.proofs.Made.{made}
 use borrow.Author.Needs.{needs}
 use Rattle.plan.proofs.plan.one_move.Statement.{statement}
 use Rattle.plan.proofs.plan.one_move.Tie as tie
@@ -10,22 +10,25 @@ together-requires c κs = search needs
 two-requires : tie.Need-two-requires
 two-requires c κs = search needs
 
-cast-t11 : tie.Need-cast-t11
-cast-t11 c = search needs
-
 moves-to-requires : tie.Need-moves-to-requires
 moves-to-requires c κs = search needs
 
 one-requires : tie.Need-one-requires
 one-requires c κs = search needs
 
+taking-requires : tie.Need-taking-requires
+taking-requires c κs = search needs
+
 returns : tie.Need-returns
-returns c = (
-  rw (c .one .ensures, c .before .moves-to .ensures, c .before .before .two .ensures, c .before .before .before .together .ensures),
-  search (needs, placed),
-)
+returns c = search (needs, made)
 
 pub one-move-spec : {M : Type 1} → statement M
 one-move-spec =
     tie.close
-    (tie.spec together-requires two-requires cast-t11 moves-to-requires one-requires returns)
+    (tie.spec
+    together-requires
+    two-requires
+    moves-to-requires
+    one-requires
+    taking-requires
+    returns)

@@ -1,6 +1,7 @@
 -- `ring::RingTable::close` meets its contract. Assumes nothing.
 use Rattle.basis.proofs.Branch.{branch}
 use Rattle.ring.proofs.Closing.{close-unmet}
+use Rattle.ring.proofs.Numbers.{closes}
 use borrow.Author.Needs.{needs}
 use Rattle.ring.proofs.RingTable.close.Statement.{statement}
 use Rattle.ring.proofs.RingTable.close.Tie as tie
@@ -9,7 +10,7 @@ meets-rules-requires : tie.Need-meets-rules-requires
 meets-rules-requires c κs = search needs
 
 returns : tie.Need-returns
-returns c = search (needs, close-unmet)
+returns c = closes _ _ _ (search (needs, close-unmet))
 
 close-valid-requires : tie.Need-close-valid-requires
 close-valid-requires c κs = search (needs, branch)

@@ -1,5 +1,6 @@
 -- `ring::RingTable::make` meets its contract. Assumes nothing.
 use Rattle.ring.proofs.Making.{making}
+use Rattle.ring.proofs.Numbers.{makes}
 use borrow.Author.Needs.{needs}
 use Rattle.ring.proofs.RingTable.make.Statement.{statement}
 use Rattle.ring.proofs.RingTable.make.Tie as tie
@@ -11,7 +12,7 @@ blank-requires : tie.Need-blank-requires
 blank-requires c κs = search needs
 
 returns : tie.Need-returns
-returns c = search (needs, making)
+returns c = makes _ _ _ (search (needs, making))
 
 port-fields-requires : tie.Need-port-fields-requires
 port-fields-requires c κs = search (needs, making)
@@ -32,10 +33,10 @@ blank-requires-2 : tie.Need-blank-requires-2
 blank-requires-2 c κs = search needs
 
 returns-2 : tie.Need-returns-2
-returns-2 c = search (needs, making)
+returns-2 c = makes _ _ _ (search (needs, making))
 
 returns-3 : tie.Need-returns-3
-returns-3 c = search (needs, making)
+returns-3 c = makes _ _ _ (search (needs, making))
 
 pub make-spec : {M : Type 1} → statement M
 make-spec =

@@ -2,6 +2,7 @@
 -- of structs is outside what the borrow checker covers. All that it knows of `decide` and of `write_moves` is that each meets its contract.
 -- `write_moves` is called at the borrow's own lifetime, share and ghost name: the borrow is given up for good, and what `write_moves` says of
 -- the last list is what `open` says of `moves` at exit (`gave-slice`). Assumes nothing.
+use mathlib.Core.Bool.{true}
 use Rattle.moves.proofs.Prelude.{_≡_, refl, ap, subst, _∙_, ℕ, [], _∷_, List, length, URA, named, w64, Val, vint, SProp, ent, sep, emp, via, fst∗, snd∗, exE, id⊢, Lft, Share, GName, ftrue, flft, Memory, Routine, Heap, Calls, Loops, WpFn, Tables, Atoms, sem, Fun, fact, givenOf, tables, tablesOf, Given, ‵, raw, some, later, _⊛_, _$_, _∵_, !, qed, by, move, keep, drop, use1, split, join, pick, fsplit, fjoin, feqL, suffices, frame, await, done, FmC, fmOf, WpFn-mono, owns, Is, shows, uint-makes, usize, unit, pointee, RefT, sliceVal, MutSlice, Room, finally, slice-vals, mut-slice-tells, only, owned, facts, heard, nothing, plain, onEntry, Meets, tripleOf, Contract, Triple, ensured, lasts, entered, cited, Stays, stay-none, gave-slice, walkOf, goes-none, goes-gave-slice, Walks, ends-at, walked, walk-meets, yes}
 use types.Kit.{mean, updating, now, check}
 use denote.Plain.{nothing-tells}
@@ -11,7 +12,7 @@ use Rattle.lightpath.proofs.Circuit as K
 use Rattle.lightpath.proofs.Circuit.Laws as K′
 use Rattle.moves.specs.declared.Move.{Move}
 use Rattle.moves.specs.Lent.{written}
-use Rattle.moves.proofs.Walk.{says3, made}
+use Rattle.moves.proofs.Walk.{says4, made}
 use Rattle.moves.proofs.Move as N
 use Rattle.moves.proofs.Move.Laws as N′
 use Rattle.moves.proofs.Moves as U
@@ -20,9 +21,10 @@ use Rattle.moves.proofs.write_moves as write-moves
 use Rattle.moves.proofs.write_moves.Symbol as write-moves-def
 use Rattle.moves.proofs.write_moves.Symbol.{name as #moves·write-moves}
 use Rattle.moves.proofs.write_moves.Met as write-moves-thm
-use Rattle.ring.specs.Table.{RingTable}
+use Rattle.ring.specs.Table.{RingTable, meetsRules}
 use Rattle.ring.specs.Opening.{Decision, decideOf}
-use Rattle.ring.proofs.Demand.{demand3-of}
+use Rattle.ring.proofs.Numbers.{open-numbers}
+use Rattle.ring.proofs.Demand.{Numbered, Keeps, demand3-open}
 use Rattle.ring.proofs.Lending as L
 use Rattle.ring.proofs.RingTable as T
 use Rattle.ring.proofs.RingTable.Laws as T′
@@ -55,9 +57,12 @@ module _ {M : Type 1} (𝓤 : URA M) (H : Heap 𝓤) (A : Atoms 𝓤) (mem : Mem
   abbrev Write : Contract 𝓤
   Write = tripleOf 𝓤 H A write-moves.signature (write-moves.spec 𝓤 H A mem run)
 
-  -- of what `decide` ensures, the clause alone: it has no `&mut`
+  -- of what `decide` ensures, the first clause: it has no `&mut`
   decided : (t : RingTable) (c : Circuit) (n : ℕ) (r : Decision) → ent 𝓤 (ensured 𝓤 H A decide.ended (decide.clauses 𝓤 H A mem run) tt (t, (c, (n, tt))) tt r) (fact 𝓤 (r ≡ decideOf t c n))
-  decided t c n r = exE 𝓤 _ (λ ws. snd∗ 𝓤 (sem 𝓤 H A (lasts decide.ended tt (t, (c, (n, tt))) ws)) (fact 𝓤 (r ≡ decideOf t c n)))
+  decided t c n r =
+      let first = fact 𝓤 (r ≡ decideOf t c n) in
+      let others = sep 𝓤 (fact 𝓤 (Numbered t c n r)) (fact 𝓤 (meetsRules t ≡ true → Keeps t c n r)) in
+      exE 𝓤 _ (λ ws. via 𝓤 (sep 𝓤 first others) (snd∗ 𝓤 (sem 𝓤 H A (lasts decide.ended tt (t, (c, (n, tt))) ws)) (sep 𝓤 first others)) (fst∗ 𝓤 first others))
 
 -- κ is the borrow's lifetime and q the share of its token; the list ys stands at (b, o), and γ names the borrow
 module _ {M : Type 1} (𝓤 : URA M) (H : Heap 𝓤) (A : Atoms 𝓤) (W : Given 𝓤 H A) (mem : Memory → SProp 𝓤) (run : Routine → Fun 𝓤) (κ : Lft) (q : Share) (b o : ℕ) (γ : GName) (ys : List Move) (t : RingTable) (c : Circuit)
@@ -139,7 +144,7 @@ module _ {M : Type 1} (𝓤 : URA M) (H : Heap 𝓤) (A : Atoms 𝓤) (W : Given
   exits is zs f l =
       qed W ((‵ (flft κ q) ⊛ ‵ ftrue) ∷ ‵ (finally N.the-row γ zs) ∷ []) ∵
       suffices ! _ (ends-at 𝓤 H A open′.ended stayed (open′.clauses 𝓤 H A mem run) W (((κ, tt), (q, tt), tt, a, vals), tt) _ (d .opened) (tt, (tt, (zs, tt))) (tt, (tt, (l, tt)))) $
-      says3 ! refl f (demand3-of t c ys (d .opened) zs refl f) $ frame ! $
+      says4 ! refl f (open-numbers t c (length ys)) (demand3-open t c ys (d .opened) zs refl f) $ frame ! $
       nothing ! $ move ! (1 ∷ 0 ∷ []) $ fjoin ! $ made ! K.the-type K′.the-plain c _ is-c $ fjoin ! $ made ! T.the-type T′.the-plain t _ is-t $ fjoin ! $
       made ! O.the-type O′.the-plain (d .opened) _ (LL.owed D.the-type D′.the-laws d _ is .0) $ move ! (1 ∷ 0 ∷ []) $ done !
 

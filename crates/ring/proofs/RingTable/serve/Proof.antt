@@ -4,11 +4,14 @@ use borrow.Author.Needs.{needs}
 use Rattle.ring.proofs.RingTable.serve.Statement.{statement}
 use Rattle.ring.proofs.RingTable.serve.Tie as tie
 
-assign-requires : tie.Need-assign-requires
-assign-requires c κs = search needs
+plan-requires : tie.Need-plan-requires
+plan-requires c κs = search needs
+
+changed-requires : tie.Need-changed-requires
+changed-requires c κs = search needs
 
 returns : tie.Need-returns
 returns c = search (needs, served-by)
 
 pub serve-spec : {M : Type 1} → statement M
-serve-spec = tie.close (tie.spec assign-requires returns)
+serve-spec = tie.close (tie.spec plan-requires changed-requires returns)

@@ -5,12 +5,14 @@ use Rattle.rules.proofs.Distinct.{Told, Telling, apart}
 use Rattle.rules.proofs.numbers.numbers_distinct.Statement.{statement}
 use Rattle.rules.proofs.numbers.numbers_distinct.Tie as tie
 
+-- the number at i is none of those after it and before j
 abbrev Inv-loop2 : tie.InvT-loop2
 Inv-loop2 count list i number j₀ j = (i < j) × Telling list i j
 
 abbrev μ-loop2 : tie.MeasureT-loop2
 μ-loop2 count list i number j₀ j = count - j
 
+-- each number before i is none of those after it
 abbrev Inv-loop : tie.InvT-loop
 Inv-loop count list i₀ i = (i ≤ count) × Told list count i
 

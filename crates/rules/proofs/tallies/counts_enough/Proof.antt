@@ -3,15 +3,17 @@ use Prim.Native.Nat.{_≤_, _-_}
 use mathlib.Core.Bool.{true}
 use borrow.Author.Needs.{needs}
 use Rattle.basis.proofs.Scan.{Passed, scan}
+use Rattle.limits.specs.Limits.{portFields}
 use Rattle.rules.specs.Tallies.{enoughAt}
 use Rattle.rules.proofs.tallies.counts_enough.Statement.{statement}
 use Rattle.rules.proofs.tallies.counts_enough.Tie as tie
 
+-- the nodes before i have ports enough
 abbrev Inv-loop : tie.InvT-loop
-Inv-loop ports sent received i₀ i = (i ≤ 64) × Passed (enoughAt ports sent received) true i
+Inv-loop ports sent received i₀ i = (i ≤ portFields) × Passed (enoughAt ports sent received) true i
 
 abbrev μ-loop : tie.MeasureT-loop
-μ-loop ports sent received i₀ i = 64 - i
+μ-loop ports sent received i₀ i = portFields - i
 
 loop-holds : tie.Need-loop-holds Inv-loop μ-loop
 loop-holds c = search (needs, scan)

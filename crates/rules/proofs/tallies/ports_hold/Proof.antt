@@ -4,11 +4,8 @@ use Rattle.rules.proofs.InUse.{enough-holds}
 use Rattle.rules.proofs.tallies.ports_hold.Statement.{statement}
 use Rattle.rules.proofs.tallies.ports_hold.Tie as tie
 
-sent-counts-requires : tie.Need-sent-counts-requires
-sent-counts-requires c κs = search needs
-
-received-counts-requires : tie.Need-received-counts-requires
-received-counts-requires c κs = search needs
+port-counts-requires : tie.Need-port-counts-requires
+port-counts-requires c κs = search needs
 
 counts-enough-requires : tie.Need-counts-enough-requires
 counts-enough-requires c κs = search needs
@@ -17,6 +14,4 @@ returns : tie.Need-returns
 returns c = search (needs, enough-holds)
 
 pub ports-hold-spec : {M : Type 1} → statement M
-ports-hold-spec =
-    tie.close
-    (tie.spec sent-counts-requires received-counts-requires counts-enough-requires returns)
+ports-hold-spec = tie.close (tie.spec port-counts-requires counts-enough-requires returns)

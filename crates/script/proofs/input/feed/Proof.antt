@@ -1,4 +1,5 @@
--- `script::input::feed` meets its contract. Assumes nothing.
+-- `script::input::feed` meets its contract. The loop's invariant: of the chunk the first i bytes are taken in, and what they print stands in the
+-- lent bytes up to `at`. Assumes nothing.
 use Prim.Native.Nat.{_-_}
 use lib.ListN.{length}
 use borrow.Author.Needs.{needs}

@@ -1,0 +1,2 @@
+-- The laws of writes, one after another.
+pub mod Put

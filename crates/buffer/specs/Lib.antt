@@ -1,0 +1,2 @@
+-- Bytes written into a lent buffer.
+pub mod Put

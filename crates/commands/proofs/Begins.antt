@@ -1,0 +1,101 @@
+-- The form or the path of a command begins within its line. Assumes nothing.
+use Prim.Native.Nat.{ℕ, _≤_, _^_}
+use mathlib.Core.Path.{_≡_, refl}
+use mathlib.Core.Bool.{Bool, true, false}
+use mathlib.Core.List.{List, [], _∷_}
+use native.Mathlib.Omega.{arith}
+use lib.Dec.{eqb, leb}
+use lib.ListN.{length, getD}
+use borrow.Author.Tests.{eqb-false}
+use Rattle.basis.specs.Choice.{pick}
+use Rattle.text.specs.declared.Number.{Number}
+use Rattle.text.specs.declared.Number.the-variants.{Got, Missing}
+use Rattle.text.specs.Bytes.{bytes}
+use Rattle.text.specs.Number.{number}
+use Rattle.words.specs.Split.{words, sameText}
+use Rattle.commands.specs.declared.Command.{Command}
+use Rattle.commands.specs.declared.Command.the-variants.{Read, ReadFile, Write, WriteFile, Load, Link, Circuits, Show, Desk}
+use Rattle.commands.specs.Command.{longestCommand, lastAt, byFirst, readCommand, writeCommand, given, field, atEnd, linkCommand, commandWords, commandOf}
+use Rattle.commands.proofs.Last.{last-within}
+
+-- where it begins is at most n
+abbrev Begins : ℕ → Command → Type 0
+Begins n (Read s) = s ≤ n
+Begins n (ReadFile s) = s ≤ n
+Begins n Write = Unit {0}
+Begins n (WriteFile s) = s ≤ n
+Begins n Load = Unit {0}
+Begins n (Link link wavelength direction) = Unit {0}
+Begins n Circuits = Unit {0}
+Begins n Show = Unit {0}
+Begins n Desk = Unit {0}
+
+-- each part of the definition keeps that
+module _ (n : ℕ) where
+  begins-pick : (t : Bool) (a b : Command) → Begins n a → Begins n b → Begins n (pick t a b)
+  begins-pick true a b p q = p
+  begins-pick false a b p q = q
+
+  begins-end : (ws : List (List ℕ)) (a : Command) → Begins n a → Begins n (atEnd ws a)
+  begins-end [] a p = p
+  begins-end (w ∷ ws) a p = tt
+
+  begins-given : (m : Number) (f : ℕ → Command) → ((k : ℕ) → Begins n (f k)) → Begins n (given m f)
+  begins-given (Got k) f h = h k
+  begins-given Missing f h = tt
+
+  begins-field : (ws : List (List ℕ)) (f : ℕ → List (List ℕ) → Command) → ((k : ℕ) (vs : List (List ℕ)) → Begins n (f k vs)) → Begins n (field ws f)
+  unfolding field
+  begins-field [] f h = tt
+  begins-field (w ∷ ws) f h = begins-given (number (2 ^ 64) w) _ (λ k. h k ws)
+
+  begins-first : (l : List ℕ) (s : ℕ) (file other : Command) → ((s ≡ 0 → ⊥) → Begins n file) → ((s ≡ 0 → ⊥) → Begins n other)
+      → Begins n (byFirst l s file other)
+  begins-first l s file other p q = go (eqb s 0) refl
+    where
+      go : (t : Bool) → eqb s 0 ≡ t → Begins n (byFirst l s file other)
+      go true e = rw e tt
+      go false e = let m : s ≡ 0 → ⊥ = eqb-false s 0 e in rw e (begins-pick (eqb (getD l s 0) 64) file other (p m) (q m))
+
+module _ (l : List ℕ) where
+  begins-read : (ws : List (List ℕ)) → Begins (length l) (readCommand l ws)
+  unfolding readCommand
+  begins-read ws = begins-first (length l) l (lastAt l ws) _ _ (λ m. last-within l ws m) (λ m. omega (arith, last-within l ws m))
+
+  begins-write : (ws : List (List ℕ)) → Begins (length l) (writeCommand l ws)
+  unfolding writeCommand
+  begins-write [] = tt
+  begins-write (w ∷ ws) = begins-first (length l) l (lastAt l (w ∷ ws)) _ _ (λ m. last-within l (w ∷ ws) m) (λ m. tt)
+
+  begins-link : (ws : List (List ℕ)) → Begins (length l) (linkCommand ws)
+  unfolding linkCommand
+  begins-link ws =
+      begins-field (length l) ws _ (λ a us. begins-field (length l) us _ (λ b vs. begins-field (length l) vs _ (λ c rs. begins-end (length l) rs _ tt)))
+
+  begins-words : (ws : List (List ℕ)) → Begins (length l) (commandWords l ws)
+  unfolding commandWords
+  begins-words [] = tt
+  begins-words (w ∷ ws) =
+      begins-pick (length l) (sameText w (bytes "read")) _ _ (begins-read ws)
+      (begins-pick (length l) (sameText w (bytes "write")) _ _ (begins-write ws)
+      (begins-pick (length l) (sameText w (bytes "load")) _ _ (begins-end (length l) ws _ tt)
+      (begins-pick (length l) (sameText w (bytes "link")) _ _ (begins-link ws)
+      (begins-pick (length l) (sameText w (bytes "circuits")) _ _ (begins-end (length l) ws _ tt)
+      (begins-pick (length l) (sameText w (bytes "show")) _ _ (begins-end (length l) ws _ tt) tt)))))
+
+  begins : Begins (length l) (commandOf l)
+  unfolding commandOf
+  begins = begins-pick (length l) (leb (length l) longestCommand) _ _ (begins-words (words l)) tt
+
+-- what a caller that lends the rest of a line from there on has to show
+module _ (l : List ℕ) (r : Command) (s : ℕ) (e : r ≡ commandOf l) where
+  pub read-begins : r ≡ Read s → s ≤ length l
+  read-begins k = rw (← e, k) at (begins l)
+
+  pub file-begins : r ≡ ReadFile s → s ≤ length l
+  file-begins k = rw (← e, k) at (begins l)
+
+  pub path-begins : r ≡ WriteFile s → s ≤ length l
+  path-begins k = rw (← e, k) at (begins l)
+
+pub ruleset beginning = (read-begins, file-begins, path-begins)

@@ -1,0 +1,20 @@
+-- `commands::parse_read` meets its contract. Assumes nothing.
+use borrow.Author.Needs.{needs}
+use Rattle.commands.proofs.Fields.{words}
+use Rattle.commands.proofs.parse_read.Statement.{statement}
+use Rattle.commands.proofs.parse_read.Tie as tie
+
+last-word-requires : tie.Need-last-word-requires
+last-word-requires c κs = search (needs, words)
+
+add-t4 : tie.Need-add-t4
+add-t4 c = search (needs, words)
+
+by-first-requires : tie.Need-by-first-requires
+by-first-requires c κs = search (needs, words)
+
+returns : tie.Need-returns
+returns c = search (needs, words)
+
+pub parse-read-spec : {M : Type 1} → statement M
+parse-read-spec = tie.close (tie.spec last-word-requires add-t4 by-first-requires returns)

@@ -1,0 +1,76 @@
+-- What a line asks for beyond the script's three kinds; any other is for the order desk, which runs it or refuses it. Assumes nothing.
+-- What `parse_command` promises.
+use Prim.Native.Nat.{ℕ, suc, _-_, _^_}
+use mathlib.Core.List.{List, [], _∷_}
+use lib.Dec.{eqb, leb}
+use lib.ListN.{length, getD}
+use Rattle.basis.specs.Choice.{pick}
+use Rattle.text.specs.declared.Number.{Number}
+use Rattle.text.specs.declared.Number.the-variants.{Got, Missing}
+use Rattle.text.specs.Bytes.{bytes}
+use Rattle.text.specs.Number.{number}
+use Rattle.words.specs.Split.{words, sameText}
+use Rattle.commands.specs.declared.Command.{Command}
+use Rattle.commands.specs.declared.Command.the-variants.{Read, ReadFile, Write, WriteFile, Load, Link, Circuits, Show, Desk}
+
+-- a line of at most 8,192 bytes
+abbrev pub longestCommand : ℕ
+longestCommand = 8192
+
+-- where the last word of the line l begins, if the words left are one that has a byte; else 0
+abbrev pub lastAt : List ℕ → List (List ℕ) → ℕ
+lastAt l [] = 0
+lastAt l ([] ∷ ws) = 0
+lastAt l ((x ∷ w) ∷ []) = length l - length (x ∷ w)
+lastAt l ((x ∷ w) ∷ v ∷ ws) = 0
+
+-- the word that begins at a position: a path after `@` (the byte 64), or another
+abbrev pub byFirst : List ℕ → ℕ → Command → Command → Command
+byFirst l start file other = pick (eqb start 0) Desk (pick (eqb (getD l start 0) 64) file other)
+
+-- `read FORM`: FORM is `@` and a path, or a word with the form's digits
+unfoldable pub readCommand : List ℕ → List (List ℕ) → Command
+readCommand l ws = byFirst l (lastAt l ws) (ReadFile (suc (lastAt l ws))) (Read (lastAt l ws))
+
+-- `write`, or `write @PATH`
+unfoldable pub writeCommand : List ℕ → List (List ℕ) → Command
+writeCommand l [] = Write
+writeCommand l (w ∷ ws) = byFirst l (lastAt l (w ∷ ws)) (WriteFile (suc (lastAt l (w ∷ ws)))) Desk
+
+-- no word is left
+abbrev pub atEnd : List (List ℕ) → Command → Command
+atEnd [] command = command
+atEnd (w ∷ ws) command = Desk
+
+-- what follows from the number that a word is
+abbrev pub given : Number → (ℕ → Command) → Command
+given (Got n) f = f n
+given Missing f = Desk
+
+-- what follows from the first word, as a number of 64 bits, and the words after it
+unfoldable pub field : List (List ℕ) → (ℕ → List (List ℕ) → Command) → Command
+field [] f = Desk
+field (w ∷ ws) f = given (number (2 ^ 64) w) (λ n. f n ws)
+
+-- `link LINK WAVELENGTH DIRECTION`
+unfoldable pub linkCommand : List (List ℕ) → Command
+linkCommand ws =
+    field ws (λ link ws.
+    field ws (λ wavelength ws.
+    field ws (λ direction ws.
+    atEnd ws (Link link wavelength direction))))
+
+-- a line by its words: the first says which it is
+unfoldable pub commandWords : List ℕ → List (List ℕ) → Command
+commandWords l [] = Desk
+commandWords l (w ∷ ws) =
+    pick (sameText w (bytes "read")) (readCommand l ws)
+    (pick (sameText w (bytes "write")) (writeCommand l ws)
+    (pick (sameText w (bytes "load")) (atEnd ws Load)
+    (pick (sameText w (bytes "link")) (linkCommand ws)
+    (pick (sameText w (bytes "circuits")) (atEnd ws Circuits)
+    (pick (sameText w (bytes "show")) (atEnd ws Show)
+    Desk)))))
+
+unfoldable pub commandOf : List ℕ → Command
+commandOf l = pick (leb (length l) longestCommand) (commandWords l (words l)) Desk

@@ -1,0 +1,2 @@
+-- What a line asks for beyond the script's three kinds.
+pub mod Command

@@ -1,0 +1,147 @@
+// What a line asks for beyond the script's three kinds.
+
+ghost use mathlib.Core.Path.{_≡_};
+ghost use Prim.Native.Nat.{_≤_};
+ghost use lib.ListN.{length, drop};
+ghost use Rattle.words.specs.Split.{otherWords};
+ghost use Rattle.commands.specs.Command.{lastAt, byFirst, readCommand, writeCommand, atEnd, linkCommand, commandOf};
+use words::Field;
+
+// What a line asks for: one of these, or what the order desk makes of it. A form or a path begins at a position of the line.
+pub enum Command {
+    Read(usize),
+    ReadFile(usize),
+    Write,
+    WriteFile(usize),
+    Load,
+    Link {
+        link: u64,
+        wavelength: u64,
+        direction: u64,
+    },
+    Circuits,
+    Show,
+    Desk,
+}
+
+// The command, where the word that ends at the position is the last.
+fn at_end(line: &[u8], at: usize, command: Command) -> Command
+    ensures { λ r. ⌜ r ≡ atEnd (otherWords (drop at (now (line .entry)))) command ⌝ }
+{
+    if at < line.len() {
+        return Command::Desk;
+    }
+    command
+}
+
+// Where the word after the one that ends at a position begins, if it is the last and has a byte; else 0.
+fn last_word(line: &[u8], at: usize) -> usize
+    ensures { λ r. ⌜ (r ≡ lastAt (now (line .entry)) (otherWords (drop at (now (line .entry))))) × (r ≤ length (now (line .entry))) ⌝ }
+{
+    if line.len() <= at {
+        return 0;
+    }
+    let start = at + 1;
+    if line.len() <= start {
+        return 0;
+    }
+    let end = words::word_end(line, start);
+    if end < line.len() {
+        return 0;
+    }
+    start
+}
+
+// The command of a path, where `@` stands at the position at which a word begins, or of another word; at 0 begins none.
+fn by_first(line: &[u8], start: usize, file: Command, other: Command) -> Command
+    ensures { λ r. ⌜ r ≡ byFirst (now (line .entry)) start file other ⌝ }
+{
+    if start == 0 {
+        return Command::Desk;
+    }
+    if line.len() <= start {
+        return other;
+    }
+    if line[start] == b'@' {
+        return file;
+    }
+    other
+}
+
+// `read FORM`, after its first word.
+fn parse_read(line: &[u8], at: usize) -> Command
+    ensures { λ r. ⌜ r ≡ readCommand (now (line .entry)) (otherWords (drop at (now (line .entry)))) ⌝ }
+{
+    let start = last_word(line, at);
+    by_first(
+        line,
+        start,
+        Command::ReadFile(start + 1),
+        Command::Read(start),
+    )
+}
+
+// `write` or `write @PATH`, after its first word.
+fn parse_write(line: &[u8], at: usize) -> Command
+    ensures { λ r. ⌜ r ≡ writeCommand (now (line .entry)) (otherWords (drop at (now (line .entry)))) ⌝ }
+{
+    if line.len() <= at {
+        return Command::Write;
+    }
+    let start = last_word(line, at);
+    by_first(line, start, Command::WriteFile(start + 1), Command::Desk)
+}
+
+// `link LINK WAVELENGTH DIRECTION`, after its first word.
+fn parse_link(line: &[u8], at: usize) -> Command
+    ensures { λ r. ⌜ r ≡ linkCommand (otherWords (drop at (now (line .entry)))) ⌝ }
+{
+    let Field::Read(link, a) = words::read_field(line, at, u64::MAX) else {
+        return Command::Desk;
+    };
+    let Field::Read(wavelength, b) = words::read_field(line, a, u64::MAX) else {
+        return Command::Desk;
+    };
+    let Field::Read(direction, end) = words::read_field(line, b, u64::MAX) else {
+        return Command::Desk;
+    };
+    at_end(
+        line,
+        end,
+        Command::Link {
+            link,
+            wavelength,
+            direction,
+        },
+    )
+}
+
+// What a line asks for, without its line end.
+pub fn parse_command(line: &[u8]) -> Command
+    ensures { λ r. ⌜ r ≡ commandOf (now (line .entry)) ⌝ }
+{
+    if 8192 < line.len() {
+        return Command::Desk;
+    }
+    let end = words::word_end(line, 0);
+    let first = &line[..end];
+    if words::same_text(first, b"read") {
+        return parse_read(line, end);
+    }
+    if words::same_text(first, b"write") {
+        return parse_write(line, end);
+    }
+    if words::same_text(first, b"load") {
+        return at_end(line, end, Command::Load);
+    }
+    if words::same_text(first, b"link") {
+        return parse_link(line, end);
+    }
+    if words::same_text(first, b"circuits") {
+        return at_end(line, end, Command::Circuits);
+    }
+    if words::same_text(first, b"show") {
+        return at_end(line, end, Command::Show);
+    }
+    Command::Desk
+}

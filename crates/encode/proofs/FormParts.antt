@@ -1,0 +1,61 @@
+-- Writing the form part by part: N, the ports, the map, the records. Assumes nothing.
+use Prim.Native.Nat.{ℕ, zero, suc, _+_, _*_, _/_, _%_}
+use mathlib.Core.Path.{_≡_, refl}
+use mathlib.Core.Bool.{Bool}
+use mathlib.Core.List.{List, [], _∷_, _++_}
+use native.Mathlib.Omega.{arith}
+use Rattle.basis.proofs.Arrays.{lent-within, lent-counted}
+use Rattle.lit_words.specs.declared.Lit.{Lit}
+use Rattle.lit_words.specs.Lit.{word}
+use Rattle.lit_words.proofs.Bits.{word-lt, low-byte}
+use Rattle.channels.specs.Channels.{litAt, litOf}
+use Rattle.ring.specs.declared.RingTable.{RingTable}
+use Rattle.buffer.specs.Put.{Room, Put}
+use Rattle.form.specs.Form.{mapBytes, mapWidth, recordsBytes, portsBytes, formOf}
+use Rattle.encode.specs.MapWords.{lowFirst, wordsBytes}
+use Rattle.encode.proofs.Chain.{Putting, start, first, then, done}
+
+-- the map is the bytes of the words
+map-word : (f : ℕ → Bool) (k p : ℕ) → mapBytes f k p ≡ lowFirst k (word f (8 * k) p)
+unfolding mapBytes lowFirst
+map-word f zero p = refl
+map-word f (suc k) p =
+    let e : 8 * suc k ≡ 8 + 8 * k = omega arith in
+    let l = word-lt f 8 p in
+    let m : word f (8 + 8 * k) p % 256 ≡ word f 8 p = omega (arith, low-byte f (8 * k) p) in
+    let d : word f (8 + 8 * k) p / 256 ≡ word f (8 * k) (8 + p) = omega (arith, low-byte f (8 * k) p) in
+    rw (e, m, d, map-word f k (8 + p))
+
+map-halves : (f : ℕ → Bool) → mapBytes f mapWidth 0 ≡ mapBytes f 8 0 ++ mapBytes f 8 64
+unfolding mapBytes
+map-halves f = refl
+
+-- the parts of the form, one after the other
+module _ (t : RingTable) (lit : Lit) (e : lit ≡ litOf (t .channels)) (l : List ℕ) (h : Room l 0 (formOf t)) where
+  words-are : wordsBytes lit ≡ mapBytes (litAt (t .channels)) mapWidth 0
+  unfolding wordsBytes
+  words-are = rw (map-halves (litAt (t .channels)), map-word (litAt (t .channels)) 8 0, map-word (litAt (t .channels)) 8 64, e)
+
+  form-begun : Putting l 0 (formOf t) l 0 (t .nodes ∷ []) (portsBytes t ∷ wordsBytes lit ∷ recordsBytes (t .channels) ∷ [])
+  unfolding formOf
+  form-begun = start _ _ (rw words-are) h
+
+  pub nodes-room : Room l 0 (t .nodes ∷ [])
+  nodes-room = first form-begun
+
+  module _ (l1 : List ℕ) (n1 : ℕ) (q1 : Put l 0 (t .nodes ∷ []) l1 n1) where
+    pub ports-room : Room l1 n1 (portsBytes t)
+    ports-room = first (then q1 form-begun)
+
+    module _ (l2 : List ℕ) (n2 : ℕ) (q2 : Put l1 n1 (portsBytes t) l2 n2) where
+      pub map-room : Room l2 n2 (wordsBytes lit)
+      map-room = first (then q2 (then q1 form-begun))
+
+      module _ (l3 : List ℕ) (n3 : ℕ) (q3 : Put l2 n2 (wordsBytes lit) l3 n3) where
+        pub records-room : Room l3 n3 (recordsBytes (t .channels))
+        records-room = first (then q3 (then q2 (then q1 form-begun)))
+
+        pub form-put : (l4 : List ℕ) (n4 : ℕ) → Put l3 n3 (recordsBytes (t .channels)) l4 n4 → Put l 0 (formOf t) l4 n4
+        form-put l4 n4 q4 = done q4 (then q3 (then q2 (then q1 form-begun)))
+
+pub ruleset formRules = (lent-within, lent-counted, nodes-room, ports-room, map-room, records-room, form-put)

@@ -1,0 +1,2 @@
+-- What reading and writing a file answers.
+pub mod Files

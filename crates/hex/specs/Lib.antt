@@ -1,0 +1,2 @@
+-- Bytes as hexadecimal digits, and back.
+pub mod Hex

@@ -1,0 +1,2 @@
+-- The numbers that limit a ring.
+pub mod Limits

@@ -1,0 +1,26 @@
+// Document 01's limits, each once. The definitions have the same names in their own spelling, `placeCount` for `PLACE_COUNT`: what is
+// promised speaks of those, so that a constant with another value is refused where it is used.
+
+// The directed wavelength places of a table.
+pub const PLACE_COUNT: usize = 128;
+
+// The nodes of a ring at least.
+pub const LEAST_NODES: u8 = 3;
+
+// And at most.
+pub const MOST_NODES: u8 = 64;
+
+// The port fields of a table: one for each node that there can be.
+pub const PORT_FIELDS: usize = MOST_NODES as usize;
+
+// The transmitters of a node at most, and its receivers.
+pub const MOST_PORTS: u8 = 64;
+
+// The ports of all nodes together at most.
+pub const MOST_TOTAL: u16 = 192;
+
+// The move records that a host lends at least.
+pub const LEAST_RECORDS: usize = 3;
+
+// The circuits that the places have room for: two each.
+pub const CIRCUIT_ROOM: usize = 2 * PLACE_COUNT;

@@ -1,0 +1,56 @@
+-- `picture::number::received` meets its contract: the circuits of the places below are counted. Assumes nothing.
+use Prim.Native.Nat.{_-_}
+use borrow.Author.Needs.{needs}
+use Rattle.basis.proofs.Arrays.{array-length}
+use Rattle.picture.proofs.Using.{Using, in-use}
+use Rattle.picture.proofs.number.received.Statement.{statement}
+use Rattle.picture.proofs.number.received.Tie as tie
+
+abbrev Inv-loop : tie.InvT-loop
+Inv-loop node channels count₀ place₀ count place = Using (λ c. c .destination) channels node count place
+
+abbrev μ-loop : tie.MeasureT-loop
+μ-loop node channels count₀ place₀ count place = 128 - place
+
+loop-holds : tie.Need-loop-holds Inv-loop μ-loop
+loop-holds c = search (needs, in-use, array-length)
+
+mul-channel : tie.Need-mul-channel Inv-loop μ-loop
+mul-channel c = search (needs, in-use, array-length)
+
+array-copy-out-channel : tie.Need-array-copy-out-channel Inv-loop μ-loop
+array-copy-out-channel c = search (needs, in-use, array-length)
+
+received-at-requires : tie.Need-received-at-requires Inv-loop μ-loop
+received-at-requires c κs = search (needs, in-use)
+
+add-count : tie.Need-add-count Inv-loop μ-loop
+add-count c = search (needs, in-use, array-length)
+
+add-place : tie.Need-add-place Inv-loop μ-loop
+add-place c = search (needs, in-use, array-length)
+
+loop-less : tie.Need-loop-less Inv-loop μ-loop
+loop-less c = search (needs, in-use, array-length)
+
+loop-again : tie.Need-loop-again Inv-loop μ-loop
+loop-again c = search (needs, in-use)
+
+returns : tie.Need-returns Inv-loop μ-loop
+returns c = search (needs, in-use)
+
+pub received-spec : {M : Type 1} → statement M
+received-spec =
+    tie.close
+    (tie.spec
+    Inv-loop
+    μ-loop
+    loop-holds
+    mul-channel
+    array-copy-out-channel
+    received-at-requires
+    add-count
+    add-place
+    loop-less
+    loop-again
+    returns)

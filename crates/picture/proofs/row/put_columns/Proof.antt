@@ -1,0 +1,20 @@
+-- `picture::row::put_columns` meets its contract. Assumes nothing.
+use borrow.Author.Needs.{needs}
+use Rattle.picture.proofs.Appending.{appending}
+use Rattle.picture.proofs.row.put_columns.Statement.{statement}
+use Rattle.picture.proofs.row.put_columns.Tie as tie
+
+put-cells-requires : tie.Need-put-cells-requires
+put-cells-requires c κs = search (needs, appending)
+
+put-byte-requires : tie.Need-put-byte-requires
+put-byte-requires c κs = search (needs, appending)
+
+same-length : tie.Need-same-length
+same-length c = search (needs, appending)
+
+returns : tie.Need-returns
+returns c = search (needs, appending)
+
+pub put-columns-spec : {M : Type 1} → statement M
+put-columns-spec = tie.close (tie.spec put-cells-requires put-byte-requires same-length returns)

@@ -1,0 +1,2 @@
+-- How the circuits of a place are counted.
+pub mod Counted

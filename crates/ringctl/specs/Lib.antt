@@ -1,0 +1,2 @@
+-- What the program does with what it reads.
+pub mod Turn

@@ -1,0 +1,106 @@
+// The planner's program: it runs lines from standard input and writes the answers to standard output.
+mod ask;
+mod input;
+mod line;
+mod saved;
+
+ghost use Prim.Native.Nat.{_≤_};
+ghost use lib.ListN.{length};
+ghost use Rattle.ringplan.specs.Plan.{heldRoom, lineRoom, Sound};
+use input::Held;
+use libc::STDERR_FILENO;
+use libc::STDIN_FILENO;
+
+// What is to be done after a read.
+enum Next {
+    Read,
+    Finish,
+    Stop,
+}
+
+// What is held after a read, and what is next.
+struct Turn {
+    held: Held,
+    next: Next,
+}
+
+// Reads once, runs the lines that ended and writes their answers. The input ends where there is nothing to read.
+fn read_once(held: Held, line: &mut [u8], out: &mut [u8]) -> Turn
+    requires { ⌜ Sound held (now line) (now out) ⌝ }
+    ensures { λ r. ⌜ Sound (r .held) (now (line .exit)) (now (out .exit)) ⌝ }
+{
+    let mut buffer = [0u8; 1024];
+    let got = libc::read(STDIN_FILENO, &mut buffer);
+    if got < 0 {
+        io::write_all(STDERR_FILENO, b"ringplan: read failed\n");
+        return Turn {
+            held,
+            next: Next::Stop,
+        };
+    }
+    let count = io::count(got, &buffer);
+    if count == 0 {
+        return Turn {
+            held,
+            next: Next::Finish,
+        };
+    }
+    let fed = input::feed(held, line, &buffer[..count], out);
+    let held = fed.held;
+    if fed.wrote {
+        return Turn {
+            held,
+            next: Next::Read,
+        };
+    }
+    io::write_all(STDERR_FILENO, b"ringplan: write failed\n");
+    Turn {
+        held,
+        next: Next::Stop,
+    }
+}
+
+// Runs what is left when the input has ended.
+fn finish(held: Held, line: &mut [u8], out: &mut [u8])
+    requires { ⌜ Sound held (now line) (now out) ⌝ }
+{
+    if held.count == 0 {
+        return;
+    }
+    let fed = input::feed(held, line, b"\n", out);
+    if !fed.wrote {
+        io::write_all(STDERR_FILENO, b"ringplan: write failed\n");
+    }
+}
+
+// Reads to the end of the input. A proved loop has to end, and nothing says that the input does: it counts its reads down from a
+// number that no run uses up.
+fn run(line: &mut [u8], out: &mut [u8])
+    requires { ⌜ (heldRoom ≤ length (now line)) × (lineRoom ≤ length (now out)) ⌝ }
+{
+    let mut held = input::start();
+    let mut reads = u64::MAX;
+    while reads > 0 {
+        let turn = read_once(held, line, out);
+        held = turn.held;
+        let next = turn.next;
+        match next {
+            Next::Read => {
+                reads -= 1;
+                continue;
+            }
+            Next::Finish => {
+                finish(held, line, out);
+                return;
+            }
+            Next::Stop => return,
+        }
+    }
+}
+
+// The lent bytes have room for a line and one byte more, and for an answer of the most bytes and others before it.
+fn main() {
+    let mut line = [0u8; 8193];
+    let mut out = [0u8; 196608];
+    run(&mut line, &mut out);
+}

@@ -1,0 +1,3 @@
+-- The words of a line, and reading its next word as a number.
+pub mod Split
+pub mod Field
