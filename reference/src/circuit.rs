@@ -22,25 +22,23 @@ impl Circuit {
         self.destination == other.source || other.destination == self.source
     }
 
-    /// The direction in which an adjacent pair can share; a total of exactly N is clockwise.
-    pub fn sharing_direction(self, other: Circuit, nodes: u8) -> Direction {
-        if self.hops(nodes) + other.hops(nodes) <= nodes {
-            Direction::Clockwise
-        } else {
-            Direction::Counterclockwise
-        }
-    }
-
-    pub fn can_share(self, other: Circuit, direction: Direction, nodes: u8) -> bool {
-        self.is_adjacent_to(other) && self.sharing_direction(other, nodes) == direction
-    }
-
     /// Whether the circuit, set up in this direction, runs over the link.
     pub fn uses_link(self, link: u8, direction: Direction, nodes: u8) -> bool {
         let links_past_source = (link + nodes - self.source) % nodes;
         let clockwise = links_past_source < self.hops(nodes);
         clockwise == (direction == Direction::Clockwise)
     }
+}
+
+/// Whether the two are adjacent and can share in this direction; hops of exactly N in total count
+/// as clockwise only.
+pub fn can_share(nodes: u8, direction: Direction, a: Circuit, b: Circuit) -> bool {
+    let total = || a.hops(nodes) + b.hops(nodes);
+    a.is_adjacent_to(b)
+        && match direction {
+            Direction::Clockwise => total() <= nodes,
+            Direction::Counterclockwise => total() > nodes,
+        }
 }
 
 #[cfg(test)]
@@ -54,12 +52,19 @@ mod tests {
 
     #[test]
     fn pairs_of_document_01() {
-        assert_eq!(circuit(1, 4).sharing_direction(circuit(4, 2), 5), Counterclockwise);
-        assert_eq!(circuit(1, 3).sharing_direction(circuit(3, 4), 5), Clockwise);
-        assert_eq!(circuit(2, 3).sharing_direction(circuit(3, 2), 5), Clockwise);
+        assert_eq!(sharing_directions(5, circuit(1, 4), circuit(4, 2)), [Counterclockwise]);
+        assert_eq!(sharing_directions(5, circuit(1, 3), circuit(3, 4)), [Clockwise]);
+        assert_eq!(sharing_directions(5, circuit(2, 3), circuit(3, 2)), [Clockwise]);
+        assert_eq!(sharing_directions(5, circuit(1, 3), circuit(2, 3)), []);
         assert!(circuit(1, 4).is_adjacent_to(circuit(4, 2)));
         assert!(circuit(4, 2).is_adjacent_to(circuit(1, 4)));
         assert!(!circuit(1, 3).is_adjacent_to(circuit(2, 3)));
+    }
+
+    fn sharing_directions(nodes: u8, a: Circuit, b: Circuit) -> Vec<Direction> {
+        let mut directions = vec![Clockwise, Counterclockwise];
+        directions.retain(|&direction| can_share(nodes, direction, a, b));
+        directions
     }
 
     #[test]
@@ -82,11 +87,13 @@ mod tests {
     fn an_adjacent_pair_has_no_link_in_common_where_it_can_share() {
         for nodes in 3..=9 {
             for (a, b) in adjacent_pairs(nodes) {
-                let direction = a.sharing_direction(b, nodes);
-                let common = |&link: &u8| {
-                    a.uses_link(link, direction, nodes) && b.uses_link(link, direction, nodes)
-                };
-                assert_eq!((1..=nodes).find(common), None, "{a:?} {b:?} on {nodes} nodes");
+                let directions = sharing_directions(nodes, a, b);
+                assert!(!directions.is_empty(), "{a:?} {b:?} on {nodes} nodes");
+                for direction in directions {
+                    let uses = |c: Circuit, link| c.uses_link(link, direction, nodes);
+                    let common = |&link: &u8| uses(a, link) && uses(b, link);
+                    assert_eq!((1..=nodes).find(common), None, "{a:?} {b:?} on {nodes} nodes");
+                }
             }
         }
     }

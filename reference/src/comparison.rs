@@ -7,7 +7,10 @@ use std::process::{Child, Command, ExitStatus, Stdio};
 use std::thread;
 
 use crate::coverage::Coverage;
-use crate::script::{self, Desk};
+use crate::lines::for_each_line;
+use crate::plan::Planner;
+use crate::program::Program;
+use crate::script::Desk;
 
 /// What the second controller answers to a script.
 pub struct Expected {
@@ -23,14 +26,35 @@ struct Line {
 }
 
 impl Expected {
-    /// Runs the script at a desk that checks the ring rules at every opening and closing.
-    pub fn of(script: &[u8]) -> Expected {
-        let mut desk = Desk::checking_rules();
-        let mut coverage = Coverage::default();
+    /// Runs the script with the ring rules checked at every opening and closing.
+    pub fn of(program: Program, script: &[u8]) -> Expected {
+        match program {
+            Program::Script => {
+                let mut desk = Desk::checking_rules();
+                Expected::collect(program, script, |coverage, line, output| {
+                    coverage.run_line(&mut desk, line).write(output)
+                })
+            }
+            Program::Plan => {
+                let mut planner = Planner::checking_rules();
+                Expected::collect(program, script, |coverage, line, output| {
+                    coverage.run_plan_line(&mut planner, line).write(output)
+                })
+            }
+        }
+    }
+
+    /// Has each line run and its answer written to the output.
+    fn collect(
+        program: Program,
+        script: &[u8],
+        mut run_line: impl FnMut(&mut Coverage, &[u8], &mut Vec<u8>) -> io::Result<()>,
+    ) -> Expected {
+        let mut coverage = Coverage::of(program);
         let mut output = Vec::new();
         let mut lines = Vec::new();
-        let all_run = script::for_each_line(&mut &script[..], |line| {
-            coverage.run_line(&mut desk, line).write(&mut output)?;
+        let all_run = for_each_line(&mut &script[..], program.line_most(), |line| {
+            run_line(&mut coverage, line, &mut output)?;
             lines.push(Line { text: line.to_vec(), answer_end: output.len() });
             Ok(())
         });
@@ -134,7 +158,7 @@ mod tests {
     const SCRIPT: &[u8] = b"ring 3 1 1 1\nopen 1 1 2 0\nclose 2\n";
 
     fn difference(program: &str) -> Option<Difference> {
-        Expected::of(SCRIPT).first_difference(program.as_bytes())
+        Expected::of(Program::Script, SCRIPT).first_difference(program.as_bytes())
     }
 
     #[test]
@@ -160,5 +184,18 @@ mod tests {
         let more = difference(more).unwrap();
         assert_eq!((more.line_number, &more.program[..]), (4, &b"more\n"[..]));
         assert_eq!(more.reference, b"");
+    }
+
+    #[test]
+    fn an_answer_of_several_lines_is_shown_whole() {
+        let script = b"ring 3 1 1 1\nopen 7 1 2 0\ncircuits\nload\n";
+        let expected = Expected::of(Program::Plan, script);
+        let list = "circuits 1\ncircuit 7 from 1 to 2 remark 0 place 0\n";
+        let output = String::from_utf8(expected.output.clone()).unwrap();
+        let changed = output.replace("place 0\nload", "place 1\nload");
+        let found = expected.first_difference(changed.as_bytes()).unwrap();
+        assert_eq!((found.line_number, &found.line[..]), (3, &b"circuits"[..]));
+        assert_eq!(found.reference, list.as_bytes());
+        assert_eq!(found.program, list.replace("place 0", "place 1").as_bytes());
     }
 }

@@ -2,14 +2,16 @@
 
 use crate::circuit::Circuit;
 use crate::refusal::Refusal;
-use crate::table::{Channel, Table, NODES_LEAST, NODES_MOST, PLACES};
+use crate::table::{Channel, Rule, Table, NODES_LEAST, NODES_MOST, PLACES};
 
 pub const FORM_MOST: usize = 1745;
 
 const MAP_BYTES: usize = PLACES / 8;
-const FIRST_REMARK: u8 = 1;
-const SECOND_PRESENT: u8 = 2;
-const SECOND_REMARK: u8 = 4;
+
+/// The bits of a record's field map.
+pub(crate) const FIRST_REMARK: u8 = 1;
+pub(crate) const SECOND_PRESENT: u8 = 2;
+pub(crate) const SECOND_REMARK: u8 = 4;
 
 /// Writes the form to the front of the buffer and answers with its length.
 pub fn write(table: &Table, buffer: &mut [u8]) -> Result<usize, Refusal> {
@@ -22,7 +24,8 @@ pub fn write(table: &Table, buffer: &mut [u8]) -> Result<usize, Refusal> {
     Ok(form.len())
 }
 
-fn form_of(table: &Table) -> Vec<u8> {
+/// The form, whether or not the table meets the ring rules.
+pub(crate) fn form_of(table: &Table) -> Vec<u8> {
     let mut form = vec![table.nodes];
     form.extend(&table.ports[..usize::from(table.nodes)]);
     form.extend(map_of(table));
@@ -77,29 +80,67 @@ fn write_circuit(circuit: Circuit, form: &mut Vec<u8>) {
     }
 }
 
-/// The table of the form, or the first fault from left to right.
+/// What is wrong with a form, in more detail than the refusal says.
+#[derive(Clone, Copy, PartialEq, Eq, PartialOrd, Ord, Debug)]
+pub enum Fault {
+    /// A fault of the ring itself.
+    Ring(Refusal),
+    Cut,
+    /// The map has a bit at 2 × W or above.
+    HighPlace,
+    /// The field map has one of the bits 3 to 7.
+    UnknownField,
+    /// The field map has bit 2 without bit 1.
+    RemarkOfNone,
+    /// A remark of 0 is written.
+    RemarkOfZero,
+    Tail,
+    Rule(Rule),
+}
+
+impl Fault {
+    pub fn refusal(self) -> Refusal {
+        match self {
+            Fault::Ring(refusal) => refusal,
+            Fault::Cut => Refusal::FormCut,
+            Fault::HighPlace | Fault::UnknownField | Fault::RemarkOfNone | Fault::RemarkOfZero => {
+                Refusal::FormField
+            }
+            Fault::Tail => Refusal::FormTail,
+            Fault::Rule(_) => Refusal::FormRules,
+        }
+    }
+}
+
+/// The table of the form, or the refusal of the first fault.
 pub fn read(form: &[u8]) -> Result<Table, Refusal> {
+    decode(form).map_err(Fault::refusal)
+}
+
+/// The table of the form, or the first fault from left to right.
+pub fn decode(form: &[u8]) -> Result<Table, Fault> {
     let mut fields = Fields { rest: form };
     let nodes = fields.byte()?;
     if !(NODES_LEAST..=NODES_MOST).contains(&nodes) {
-        return Err(Refusal::RingSize);
+        return Err(Fault::Ring(Refusal::RingSize));
     }
-    let mut table = Table::make(nodes, fields.bytes(usize::from(nodes))?)?;
+    let ports = fields.bytes(usize::from(nodes))?;
+    let mut table = Table::make(nodes, ports).map_err(Fault::Ring)?;
     let map: [u8; MAP_BYTES] = fields.array()?;
     let places_in_use = table.places_in_use();
     if (places_in_use..PLACES).any(|place| is_lit(&map, place)) {
-        return Err(Refusal::FormField);
+        return Err(Fault::HighPlace);
     }
     for place in (0..places_in_use).filter(|&place| is_lit(&map, place)) {
         table.channels[place] = fields.record()?;
     }
     if !fields.rest.is_empty() {
-        return Err(Refusal::FormTail);
+        return Err(Fault::Tail);
     }
-    if !table.meets_ring_rules() {
-        return Err(Refusal::FormRules);
+    match table.broken_rule() {
+        Some(rule) => Err(Fault::Rule(rule)),
+        None => Ok(table),
     }
-    Ok(table)
 }
 
 fn is_lit(map: &[u8; MAP_BYTES], place: usize) -> bool {
@@ -113,28 +154,31 @@ struct Fields<'a> {
 
 impl<'a> Fields<'a> {
     /// The next field; one cut short is refused before its content is judged.
-    fn bytes(&mut self, count: usize) -> Result<&'a [u8], Refusal> {
-        let (field, rest) = self.rest.split_at_checked(count).ok_or(Refusal::FormCut)?;
+    fn bytes(&mut self, count: usize) -> Result<&'a [u8], Fault> {
+        let (field, rest) = self.rest.split_at_checked(count).ok_or(Fault::Cut)?;
         self.rest = rest;
         Ok(field)
     }
 
-    fn array<const COUNT: usize>(&mut self) -> Result<[u8; COUNT], Refusal> {
+    fn array<const COUNT: usize>(&mut self) -> Result<[u8; COUNT], Fault> {
         let field = self.bytes(COUNT)?;
         Ok(field.try_into().expect("a field has the length asked for"))
     }
 
-    fn byte(&mut self) -> Result<u8, Refusal> {
+    fn byte(&mut self) -> Result<u8, Fault> {
         let [byte] = self.array()?;
         Ok(byte)
     }
 
-    fn record(&mut self) -> Result<Channel, Refusal> {
+    fn record(&mut self) -> Result<Channel, Fault> {
         let field_map = self.byte()?;
         let known = FIRST_REMARK | SECOND_PRESENT | SECOND_REMARK;
         let has = |bit| field_map & bit != 0;
-        if has(!known) || has(SECOND_REMARK) && !has(SECOND_PRESENT) {
-            return Err(Refusal::FormField);
+        if has(!known) {
+            return Err(Fault::UnknownField);
+        }
+        if has(SECOND_REMARK) && !has(SECOND_PRESENT) {
+            return Err(Fault::RemarkOfNone);
         }
         let first = self.circuit(has(FIRST_REMARK))?;
         if !has(SECOND_PRESENT) {
@@ -144,7 +188,7 @@ impl<'a> Fields<'a> {
         Ok(Channel::Two(first, second))
     }
 
-    fn circuit(&mut self, has_remark: bool) -> Result<Circuit, Refusal> {
+    fn circuit(&mut self, has_remark: bool) -> Result<Circuit, Fault> {
         let number = u32::from_be_bytes(self.array()?);
         let source = self.byte()?;
         let destination = self.byte()?;
@@ -152,9 +196,9 @@ impl<'a> Fields<'a> {
         Ok(Circuit { number, source, destination, remark })
     }
 
-    fn remark(&mut self) -> Result<u16, Refusal> {
+    fn remark(&mut self) -> Result<u16, Fault> {
         match u16::from_be_bytes(self.array()?) {
-            0 => Err(Refusal::FormField),
+            0 => Err(Fault::RemarkOfZero),
             remark => Ok(remark),
         }
     }

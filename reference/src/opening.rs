@@ -1,7 +1,7 @@
 //! Opening a circuit: Algorithm 1 of source document 000 with the choices of document 01.
 
-use crate::circuit::Circuit;
-use crate::place::{Direction, Place};
+use crate::circuit::{can_share, Circuit};
+use crate::place::Place;
 use crate::refusal::Refusal;
 use crate::table::{Channel, Lightpath, Table};
 
@@ -90,7 +90,7 @@ impl Table {
     /// Step 1: the place of the first nonsharing circuit that the new one can join.
     fn first_to_share_with(&self, new: Circuit) -> Option<Place> {
         self.nonsharing()
-            .find(|old| new.can_share(old.circuit, old.place.direction(), self.nodes))
+            .find(|old| can_share(self.nodes, old.place.direction(), old.circuit, new))
             .map(|old| old.place)
     }
 
@@ -117,23 +117,24 @@ impl Table {
         Opening { place: plan.place, moves: plan.moves.len(), looks }
     }
 
-    /// The pair is of two old circuits: 3a where one stands in the pair's direction, else 3b.
+    /// The pair is of two old circuits: 3a where one stands where the pair can share, else 3b.
     fn plan_for_old(&self, a: Lightpath, b: Lightpath, nonsharing: &[Lightpath]) -> Plan {
-        let direction = a.circuit.sharing_direction(b.circuit, self.nodes);
-        if a.place.direction() == direction {
+        let can_share_at =
+            |place: Place| can_share(self.nodes, place.direction(), a.circuit, b.circuit);
+        if can_share_at(a.place) {
             return Plan { moves: vec![(b, a.place)], place: b.place };
         }
-        if b.place.direction() == direction {
+        if can_share_at(b.place) {
             return Plan { moves: vec![(a, b.place)], place: a.place };
         }
-        let x = lowest_in(direction, nonsharing);
+        let x = lowest_where(can_share_at, nonsharing);
         Plan { moves: vec![(x, a.place), (a, x.place), (b, x.place)], place: b.place }
     }
 
     /// The pair has the new circuit: 3b with two moves, since step 1 found nothing to join.
     fn plan_with_new(&self, a: Lightpath, new: Circuit, nonsharing: &[Lightpath]) -> Plan {
-        let direction = a.circuit.sharing_direction(new, self.nodes);
-        let x = lowest_in(direction, nonsharing);
+        let can_share_at = |place: Place| can_share(self.nodes, place.direction(), a.circuit, new);
+        let x = lowest_where(can_share_at, nonsharing);
         Plan { moves: vec![(x, a.place), (a, x.place)], place: x.place }
     }
 
@@ -168,10 +169,10 @@ fn first_adjacent_pair(nonsharing: &[Lightpath], new: Circuit) -> Option<(Pair, 
     None
 }
 
-/// The nonsharing circuit at the lowest place of the direction.
-fn lowest_in(direction: Direction, nonsharing: &[Lightpath]) -> Lightpath {
+/// The nonsharing circuit at the lowest place where the pair can share.
+fn lowest_where(can_share_at: impl Fn(Place) -> bool, nonsharing: &[Lightpath]) -> Lightpath {
     *nonsharing
         .iter()
-        .find(|old| old.place.direction() == direction)
+        .find(|old| can_share_at(old.place))
         .expect("a full ring with both ports free has a nonsharing circuit each way")
 }

@@ -1,6 +1,6 @@
 //! The refusals, with the numbers of document 01.
 
-#[derive(Clone, Copy, PartialEq, Eq, Debug)]
+#[derive(Clone, Copy, PartialEq, Eq, PartialOrd, Ord, Debug)]
 #[repr(u8)]
 pub enum Refusal {
     /// N outside 3 to 64, or a port list not N long.

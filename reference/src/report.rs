@@ -32,23 +32,25 @@ fn lightpaths_over(table: &Table, link: u8, direction: Direction) -> u8 {
     count
 }
 
-/// The circuit on the link at this wavelength and direction, as a 64-bit answer:
-/// its number, 2^32 for none, or 2^32 plus the number of a refusal.
+/// What runs on a link of the form's table, as a 64-bit answer: the circuit's number, 2^32 for
+/// none, or 2^32 plus the number of a refusal.
 pub fn link_question(form: &[u8], link: u64, wavelength: u64, direction: u64) -> u64 {
-    match circuit_on_link(form, link, wavelength, direction) {
+    let answer =
+        form::read(form).and_then(|table| circuit_on_link(&table, link, wavelength, direction));
+    match answer {
         Ok(Some(number)) => u64::from(number),
         Ok(None) => NO_CIRCUIT,
         Err(refusal) => NO_CIRCUIT + u64::from(refusal.number()),
     }
 }
 
-fn circuit_on_link(
-    form: &[u8],
+/// The circuit on the link at this wavelength and direction, on a table that meets the ring rules.
+pub fn circuit_on_link(
+    table: &Table,
     link: u64,
     wavelength: u64,
     direction: u64,
 ) -> Result<Option<u32>, Refusal> {
-    let table = form::read(form)?;
     if link == 0 || link > u64::from(table.nodes) {
         return Err(Refusal::OffRing);
     }

@@ -1,8 +1,9 @@
 //! The script program: requests in lines, and their answers.
 
-use std::io::{self, BufRead, Read, Write};
+use std::io::{self, BufRead, Write};
 
 use crate::circuit::Circuit;
+use crate::lines::{for_each_line, number, words};
 use crate::opening::{Move, Opening, MOVES_MOST};
 use crate::refusal::Refusal;
 use crate::table::Table;
@@ -67,18 +68,30 @@ impl Desk {
     /// Runs one line, given without its line end.
     pub fn run_line(&mut self, line: &[u8]) -> Answer {
         match parse(line) {
-            Some(Request::Ring { nodes, ports }) => self.ring(nodes, &ports),
-            Some(Request::Open(circuit)) => self.open(circuit),
-            Some(Request::Close(number)) => self.close(number),
+            Some(request) => self.run(&request),
             None => Answer::LineRefused,
         }
+    }
+
+    /// Runs a request, which needs a table unless it is for a ring.
+    pub fn run(&mut self, request: &Request) -> Answer {
+        match request {
+            Request::Ring { nodes, ports } => self.ring(*nodes, ports),
+            Request::Open(circuit) => self.open(*circuit),
+            Request::Close(number) => self.close(*number),
+        }
+    }
+
+    /// Takes a table that meets the ring rules in place of its own.
+    pub(crate) fn put_in_force(&mut self, table: Table) {
+        self.table = Some(table);
     }
 
     fn ring(&mut self, nodes: u8, ports: &[u8]) -> Answer {
         match Table::make(nodes, ports) {
             Ok(table) => {
                 let wavelengths = table.wavelengths();
-                self.table = Some(table);
+                self.put_in_force(table);
                 Answer::Ring { nodes, wavelengths }
             }
             Err(refusal) => Answer::RingRefused(refusal),
@@ -120,47 +133,33 @@ pub fn parse(line: &[u8]) -> Option<Request> {
     if line.len() > LINE_MOST {
         return None;
     }
-    let mut fields = line.split(|&byte| byte == b' ');
-    let request = match fields.next()? {
+    let mut words = words(line);
+    let request = match words.next()? {
         b"ring" => Request::Ring {
-            nodes: byte(fields.next()?)?,
-            ports: fields.by_ref().map(byte).collect::<Option<Vec<u8>>>()?,
+            nodes: byte(words.next()?)?,
+            ports: words.by_ref().map(byte).collect::<Option<Vec<u8>>>()?,
         },
         b"open" => Request::Open(Circuit {
-            number: number(fields.next()?, u32::MAX)?,
-            source: byte(fields.next()?)?,
-            destination: byte(fields.next()?)?,
-            remark: number(fields.next()?, u32::from(u16::MAX))? as u16,
+            number: circuit_number(words.next()?)?,
+            source: byte(words.next()?)?,
+            destination: byte(words.next()?)?,
+            remark: number(words.next()?, u64::from(u16::MAX))? as u16,
         }),
-        b"close" => Request::Close(number(fields.next()?, u32::MAX)?),
+        b"close" => Request::Close(circuit_number(words.next()?)?),
         _ => return None,
     };
-    match fields.next() {
+    match words.next() {
         None => Some(request),
         Some(_) => None,
     }
 }
 
-fn byte(field: &[u8]) -> Option<u8> {
-    number(field, u32::from(u8::MAX)).map(|value| value as u8)
+fn byte(word: &[u8]) -> Option<u8> {
+    number(word, u64::from(u8::MAX)).map(|value| value as u8)
 }
 
-/// The value of a field of digits, if it is at most `most`; leading zeros count for nothing.
-fn number(field: &[u8], most: u32) -> Option<u32> {
-    if field.is_empty() {
-        return None;
-    }
-    let mut value: u64 = 0;
-    for &byte in field {
-        if !byte.is_ascii_digit() {
-            return None;
-        }
-        value = 10 * value + u64::from(byte - b'0');
-        if value > u64::from(most) {
-            return None;
-        }
-    }
-    Some(value as u32)
+fn circuit_number(word: &[u8]) -> Option<u32> {
+    number(word, u64::from(u32::MAX)).map(|value| value as u32)
 }
 
 impl Answer {
@@ -193,33 +192,6 @@ fn write_move(record: &Move, out: &mut impl Write) -> io::Result<()> {
 
 /// Runs a whole script at the desk.
 pub fn run(desk: &mut Desk, input: &mut impl BufRead, output: &mut impl Write) -> io::Result<()> {
-    for_each_line(input, |line| desk.run_line(line).write(output))?;
+    for_each_line(input, LINE_MOST, |line| desk.run_line(line).write(output))?;
     output.flush()
-}
-
-/// Hands over each line without its line end; of one that is too long, enough to tell.
-pub fn for_each_line(
-    input: &mut impl BufRead,
-    mut take: impl FnMut(&[u8]) -> io::Result<()>,
-) -> io::Result<()> {
-    let mut line = Vec::with_capacity(LINE_MOST + 1);
-    while read_line(input, &mut line)? {
-        take(&line)?;
-    }
-    Ok(())
-}
-
-/// Reads the next line; false at the end of the input.
-fn read_line(input: &mut impl BufRead, line: &mut Vec<u8>) -> io::Result<bool> {
-    line.clear();
-    let most = LINE_MOST as u64 + 1;
-    input.by_ref().take(most).read_until(b'\n', line)?;
-    if line.last() == Some(&b'\n') {
-        line.pop();
-        return Ok(true);
-    }
-    if line.len() > LINE_MOST {
-        input.skip_until(b'\n')?;
-    }
-    Ok(!line.is_empty())
 }

@@ -1,6 +1,6 @@
 //! The ring table: its nodes, ports and places, the ring rules, making and closing.
 
-use crate::circuit::Circuit;
+use crate::circuit::{can_share, Circuit};
 use crate::place::Place;
 use crate::refusal::Refusal;
 
@@ -65,6 +65,25 @@ pub struct Table {
     pub channels: [Channel; PLACES],
 }
 
+/// The ring rules, in the order in which they are looked at.
+#[derive(Clone, Copy, PartialEq, Eq, PartialOrd, Ord, Debug)]
+pub enum Rule {
+    /// Nodes and ports within their limits.
+    Limits,
+    /// Unused ports are 0 and the places from 2 × W up unlit.
+    UnusedFields,
+    /// Source and destination on the ring and different.
+    Ends,
+    /// Live numbers distinct.
+    Numbers,
+    /// No node sends or receives more circuits than it has ports.
+    Ports,
+    /// The lower number first at a place.
+    Order,
+    /// Two at a place are adjacent and can share in its direction.
+    Sharing,
+}
+
 /// W, the wavelengths in each direction: a third of the ports, rounded up.
 pub fn wavelengths_for(ring_ports: u32) -> u32 {
     ring_ports.div_ceil(3)
@@ -119,6 +138,13 @@ impl Table {
         self.channels.iter().flat_map(Channel::circuits)
     }
 
+    /// Every circuit with its place: by rising place, the lower number first.
+    pub fn lightpaths(&self) -> impl Iterator<Item = Lightpath> + '_ {
+        (0u8..).zip(&self.channels).flat_map(|(place, channel)| {
+            channel.circuits().map(move |circuit| Lightpath { circuit, place: Place(place) })
+        })
+    }
+
     /// The circuits alone at their places, by rising place.
     pub fn nonsharing(&self) -> impl Iterator<Item = Lightpath> + '_ {
         (0u8..).zip(&self.channels).filter_map(|(place, channel)| match *channel {
@@ -159,13 +185,29 @@ impl Table {
     }
 
     pub fn meets_ring_rules(&self) -> bool {
-        // The ends must be on the ring before hops and ports are looked at.
-        self.limits_hold()
-            && self.unused_fields_are_zero()
-            && self.circuits().all(|circuit| self.ends_are_good(circuit))
-            && self.numbers_are_distinct()
-            && self.ports_suffice()
-            && self.channels_are_good()
+        self.broken_rule().is_none()
+    }
+
+    /// The first ring rule that does not hold; the ends must be on the ring before hops and ports
+    /// are looked at.
+    pub fn broken_rule(&self) -> Option<Rule> {
+        if !self.limits_hold() {
+            Some(Rule::Limits)
+        } else if !self.unused_fields_are_zero() {
+            Some(Rule::UnusedFields)
+        } else if !self.circuits().all(|circuit| self.ends_are_good(circuit)) {
+            Some(Rule::Ends)
+        } else if !self.numbers_are_distinct() {
+            Some(Rule::Numbers)
+        } else if !self.ports_suffice() {
+            Some(Rule::Ports)
+        } else if !self.pairs_are_in_order() {
+            Some(Rule::Order)
+        } else if !self.pairs_can_share() {
+            Some(Rule::Sharing)
+        } else {
+            None
+        }
     }
 
     fn limits_hold(&self) -> bool {
@@ -206,13 +248,20 @@ impl Table {
         })
     }
 
-    fn channels_are_good(&self) -> bool {
-        (0u8..).zip(&self.channels).all(|(place, channel)| match *channel {
-            Channel::Two(first, second) => {
-                first.number < second.number
-                    && first.can_share(second, Place(place).direction(), self.nodes)
-            }
-            _ => true,
+    fn pairs_are_in_order(&self) -> bool {
+        self.pairs().all(|(_, first, second)| first.number < second.number)
+    }
+
+    fn pairs_can_share(&self) -> bool {
+        self.pairs()
+            .all(|(place, first, second)| can_share(self.nodes, place.direction(), first, second))
+    }
+
+    /// The places with two circuits, and these.
+    fn pairs(&self) -> impl Iterator<Item = (Place, Circuit, Circuit)> + '_ {
+        (0u8..).zip(&self.channels).filter_map(|(place, channel)| match *channel {
+            Channel::Two(first, second) => Some((Place(place), first, second)),
+            _ => None,
         })
     }
 }

@@ -2,40 +2,61 @@
 
 use ring::comparison::Expected;
 use ring::coverage::{Coverage, Event};
-use ring::generator::{script, Kind};
+use ring::generator::{script, Generator, Kind};
+use ring::plan::{parse, Command, Question, Source};
+use ring::program::Program;
 
-fn coverage(kind: Kind, seed: u64, lines: u64) -> Coverage {
-    Expected::of(&script(kind, seed, lines)).coverage
+const PROGRAMS: [Program; 2] = [Program::Script, Program::Plan];
+const KINDS: [Kind; 4] = [Kind::Small, Kind::Large, Kind::Mixed, Kind::Light];
+
+fn coverage(program: Program, kind: Kind, seed: u64, lines: u64) -> Coverage {
+    Expected::of(program, &script(program, kind, seed, lines)).coverage
 }
 
 #[test]
 fn a_seed_gives_one_script_and_another_seed_another() {
-    assert_eq!(script(Kind::Mixed, 5, 500), script(Kind::Mixed, 5, 500));
-    assert_ne!(script(Kind::Mixed, 5, 500), script(Kind::Mixed, 6, 500));
+    for program in PROGRAMS {
+        let of_seed = |seed| script(program, Kind::Mixed, seed, 500);
+        assert_eq!(of_seed(5), of_seed(5));
+        assert_ne!(of_seed(5), of_seed(6));
+    }
 }
 
 #[test]
 fn a_shorter_script_is_the_front_of_a_longer_one() {
-    for seed in 0..8 {
-        let short = script(Kind::Small, seed, 300);
-        assert!(script(Kind::Small, seed, 400).starts_with(&short));
+    for program in PROGRAMS {
+        for seed in 0..8 {
+            let short = script(program, Kind::Small, seed, 300);
+            assert!(script(program, Kind::Small, seed, 400).starts_with(&short));
+        }
     }
 }
 
 #[test]
 fn scripts_have_the_lines_asked_for() {
-    for kind in [Kind::Small, Kind::Large, Kind::Mixed, Kind::Light] {
-        for seed in 0..4 {
-            assert_eq!(coverage(kind, seed, 250).lines, 250);
+    for program in PROGRAMS {
+        for kind in KINDS {
+            for seed in 0..4 {
+                assert_eq!(coverage(program, kind, seed, 250).lines, 250);
+            }
         }
     }
 }
 
 #[test]
 fn mixed_scripts_reach_every_step_and_refusal() {
-    let mut reached = Coverage::default();
+    let mut reached = Coverage::of(Program::Script);
     for seed in 1..=4 {
-        reached.add(&coverage(Kind::Mixed, seed, 5000));
+        reached.add(&coverage(Program::Script, Kind::Mixed, seed, 5000));
+    }
+    assert_eq!(reached.missing(), []);
+}
+
+#[test]
+fn mixed_plan_scripts_reach_every_kind_of_line_answer_and_refusal() {
+    let mut reached = Coverage::of(Program::Plan);
+    for seed in 1..=60 {
+        reached.add(&coverage(Program::Plan, Kind::Mixed, seed, 600));
     }
     assert_eq!(reached.missing(), []);
 }
@@ -43,12 +64,27 @@ fn mixed_scripts_reach_every_step_and_refusal() {
 #[test]
 fn small_and_large_scripts_reach_every_step() {
     for kind in [Kind::Small, Kind::Large] {
-        let reached = coverage(kind, 2, 20_000);
+        let reached = coverage(Program::Script, kind, 2, 20_000);
         for step in [Event::Step3aBothFit, Event::Step3aFirstFits, Event::Step3aSecondFits] {
             assert!(reached.count(step) > 10, "{kind:?} {step}");
         }
         for step in [Event::Step3bWithNew, Event::Step3bOld, Event::Step3bOverShared] {
             assert!(reached.count(step) > 5, "{kind:?} {step}");
         }
+    }
+}
+
+#[test]
+fn plan_scripts_name_no_file_and_ask_for_no_picture() {
+    let mut generator = Generator::new(Program::Plan, Kind::Mixed, 9);
+    for _ in 0..20_000 {
+        let line = generator.next_line();
+        assert_ne!(line, b"show");
+        let path = match parse(&line) {
+            Some(Command::Read(Source::File(path))) => path,
+            Some(Command::Ask(Question::WriteFile(path))) => path,
+            _ => continue,
+        };
+        assert!(path.as_os_str().is_empty(), "{}", line.escape_ascii());
     }
 }

@@ -8,21 +8,27 @@ use ring::arguments::Arguments;
 use ring::comparison::{run_program, Expected};
 use ring::coverage::Coverage;
 use ring::generator::{self, Kind};
+use ring::program::Program;
 
-const USAGE: &str = "usage: compare --program PATH --seeds A..B --lines N [--kind KIND]
-  --seeds   one script for each seed from A to B, both included
-  --lines   the lines of each script
-  --kind    small, large, mixed (if not given) or light";
+const USAGE: &str =
+    "usage: compare --program PATH --seeds A..B --lines N [--kind KIND] [--plan] [--complete]
+  --seeds      one script for each seed from A to B, both included
+  --lines      the lines of each script
+  --kind       small, large, mixed (if not given) or light
+  --plan       the program takes the planning program's lines, and scripts have every kind of them
+  --complete   end with 1 where a kind of line, answer or refusal was never reached";
 
 /// Output past the expected is read this far, so that a difference can be shown.
 const OUTPUT_TOO_MUCH: usize = 1 << 16;
 
 struct Task {
-    program: PathBuf,
+    path: PathBuf,
+    program: Program,
     seeds: std::ops::RangeInclusive<u64>,
     lines: u64,
     kind_name: String,
     kind: Kind,
+    must_be_complete: bool,
 }
 
 fn main() -> ExitCode {
@@ -34,6 +40,9 @@ fn main() -> ExitCode {
         }
     };
     let (text, code) = match task.compare_all() {
+        Ok(coverage) if task.must_be_complete && !coverage.missing().is_empty() => {
+            (task.totals(&coverage), ExitCode::FAILURE)
+        }
         Ok(coverage) => (task.totals(&coverage), ExitCode::SUCCESS),
         Err(message) => (message + "\n", ExitCode::FAILURE),
     };
@@ -46,10 +55,12 @@ impl Task {
     fn read() -> Result<Task, String> {
         let words = std::env::args().skip(1);
         let names = ["--program", "--seeds", "--lines", "--kind"];
-        let arguments = Arguments::read(words, &names, &[])?;
+        let arguments = Arguments::read(words, &names, &["--plan", "--complete"])?;
         let kind_name = arguments.text("--kind").unwrap_or("mixed").to_string();
         Ok(Task {
-            program: PathBuf::from(arguments.needed_text("--program")?),
+            path: PathBuf::from(arguments.needed_text("--program")?),
+            program: if arguments.has("--plan") { Program::Plan } else { Program::Script },
+            must_be_complete: arguments.has("--complete"),
             seeds: arguments.needed_range("--seeds")?,
             lines: arguments.needed_number("--lines")?,
             kind: Kind::named(&kind_name).ok_or(format!("{kind_name} is not a kind"))?,
@@ -59,10 +70,10 @@ impl Task {
 
     /// The coverage of all scripts together, or the first difference in words.
     fn compare_all(&self) -> Result<Coverage, String> {
-        let mut coverage = Coverage::default();
+        let mut coverage = Coverage::of(self.program);
         for seed in self.seeds.clone() {
-            let script = generator::script(self.kind, seed, self.lines);
-            let expected = Expected::of(&script);
+            let script = generator::script(self.program, self.kind, seed, self.lines);
+            let expected = Expected::of(self.program, &script);
             self.compare(seed, &script, &expected)?;
             coverage.add(&expected.coverage);
         }
@@ -70,15 +81,16 @@ impl Task {
     }
 
     fn compare(&self, seed: u64, script: &[u8], expected: &Expected) -> Result<(), String> {
-        let program = self.program.display();
+        let program = self.path.display();
         let most = expected.output.len() + OUTPUT_TOO_MUCH;
-        let (output, status) = run_program(&self.program, script, most)
+        let (output, status) = run_program(&self.path, script, most)
             .map_err(|error| format!("{program} could not be run: {error}"))?;
         if let Some(difference) = expected.first_difference(&output) {
             let (kind, lines) = (&self.kind_name, difference.line_number);
+            let plan = if self.program == Program::Plan { " --plan" } else { "" };
             return Err(format!(
                 "difference with seed {seed}, {difference}\
-                 again with: generate --kind {kind} --seed {seed} --lines {lines}\n\
+                 again with: generate{plan} --kind {kind} --seed {seed} --lines {lines}\n\
                  program ended: {status}"
             ));
         }

@@ -4,11 +4,13 @@ use std::io::{self, Write};
 use std::process::ExitCode;
 
 use ring::arguments::Arguments;
-use ring::coverage::Coverage;
+use ring::comparison::Expected;
 use ring::generator::{self, Kind};
-use ring::script::{self, Desk};
+use ring::program::Program;
 
-const USAGE: &str = "usage: generate --seed S --lines N [--kind small|large|mixed|light] [--stats]
+const USAGE: &str =
+    "usage: generate --seed S --lines N [--kind small|large|mixed|light] [--plan] [--stats]
+  --plan    lines of every kind that the planning program takes
   --stats   print how often each step and refusal comes, in place of the script";
 
 fn main() -> ExitCode {
@@ -23,23 +25,17 @@ fn main() -> ExitCode {
 
 fn run() -> Result<(), String> {
     let words = std::env::args().skip(1);
-    let arguments = Arguments::read(words, &["--seed", "--lines", "--kind"], &["--stats"])?;
+    let arguments =
+        Arguments::read(words, &["--seed", "--lines", "--kind"], &["--plan", "--stats"])?;
     let seed = arguments.needed_number("--seed")?;
     let lines = arguments.needed_number("--lines")?;
     let name = arguments.text("--kind").unwrap_or("mixed");
     let kind = Kind::named(name).ok_or(format!("{name} is not a kind"))?;
-    let script = generator::script(kind, seed, lines);
-    let text = if arguments.has("--stats") { stats(&script).into_bytes() } else { script };
+    let program = if arguments.has("--plan") { Program::Plan } else { Program::Script };
+    let mut text = generator::script(program, kind, seed, lines);
+    if arguments.has("--stats") {
+        let coverage = Expected::of(program, &text).coverage;
+        text = format!("{:>10}  lines\n{coverage}", coverage.lines).into_bytes();
+    }
     io::stdout().write_all(&text).map_err(|error| error.to_string())
-}
-
-fn stats(script: &[u8]) -> String {
-    let mut coverage = Coverage::default();
-    let mut desk = Desk::new();
-    let counted = script::for_each_line(&mut &script[..], |line| {
-        coverage.run_line(&mut desk, line);
-        Ok(())
-    });
-    counted.expect("reading from memory does not fail");
-    format!("{:>10}  lines\n{coverage}", coverage.lines)
 }

@@ -1,12 +1,17 @@
 //! Long scripts from a seed, made to reach every step and every refusal often.
-//! A desk of the second controller runs along, so that the next line knows what is live.
+//! The second controller runs along, so that the next line knows what is live.
 
 mod bad_lines;
+mod forms;
+mod plan_lines;
 mod rings;
+mod tables;
 mod traffic;
 
+use crate::plan::{Answer, Planner};
+use crate::program::Program;
 use crate::random::Random;
-use crate::script::{Desk, Request, LINE_MOST};
+use crate::script::{Request, LINE_MOST};
 use crate::table::Table;
 
 use rings::Shape;
@@ -45,6 +50,9 @@ impl Kind {
     }
 }
 
+/// How many of a hundred lines for the planning program are of its own kinds.
+const PLAN_LINES: usize = 40;
+
 struct Odds {
     bad_line: usize,
     bad_ring: usize,
@@ -52,8 +60,8 @@ struct Odds {
 }
 
 /// A whole script; the last line of some has no line end.
-pub fn script(kind: Kind, seed: u64, lines: u64) -> Vec<u8> {
-    let mut generator = Generator::new(kind, seed);
+pub fn script(program: Program, kind: Kind, seed: u64, lines: u64) -> Vec<u8> {
+    let mut generator = Generator::new(program, kind, seed);
     let mut script = Vec::new();
     for _ in 0..lines {
         script.extend(generator.next_line());
@@ -67,32 +75,52 @@ pub fn script(kind: Kind, seed: u64, lines: u64) -> Vec<u8> {
 }
 
 pub struct Generator {
+    program: Program,
     kind: Kind,
     random: Random,
-    desk: Desk,
+    planner: Planner,
     tide: Tide,
     lines_left_on_ring: usize,
+    saved_forms: Vec<Vec<u8>>,
 }
 
 impl Generator {
-    pub fn new(kind: Kind, seed: u64) -> Generator {
+    pub fn new(program: Program, kind: Kind, seed: u64) -> Generator {
         Generator {
+            program,
             kind,
             random: Random::new(seed),
-            desk: Desk::new(),
+            planner: Planner::new(),
             tide: Tide::default(),
             lines_left_on_ring: 0,
+            saved_forms: Vec::new(),
         }
     }
 
     /// The next line, without its line end.
     pub fn next_line(&mut self) -> Vec<u8> {
-        let line = self.choose_line();
-        self.desk.run_line(&line);
+        let line = match self.program {
+            Program::Plan if self.random.percent(PLAN_LINES) => self.plan_line(),
+            _ => self.script_line(),
+        };
+        let ports = self.planner.table().map(|table| table.ports);
+        let answer = self.planner.run_line(&line);
+        if let (Answer::Read { .. }, Some(table)) = (answer, self.planner.table()) {
+            if ports != Some(table.ports) {
+                self.settle(table.ring_ports() as usize);
+            }
+        }
         line
     }
 
-    fn choose_line(&mut self) -> Vec<u8> {
+    /// Traffic for another ring that was read.
+    fn settle(&mut self, ring_ports: usize) {
+        self.lines_left_on_ring = Shape::Small.stay(self.kind, &mut self.random);
+        self.tide = Tide::choose(Shape::Middling, ring_ports, &mut self.random);
+    }
+
+    /// A line of the script program.
+    fn script_line(&mut self) -> Vec<u8> {
         let Odds { bad_line, bad_ring, bad_request } = self.kind.odds();
         let draw = self.random.below(1000);
         if draw < bad_line {
@@ -112,7 +140,7 @@ impl Generator {
 
     /// A request that is mostly served: traffic, or a new ring when the old has had its time.
     fn plain_request(&mut self) -> Request {
-        match self.desk.table() {
+        match self.planner.table() {
             Some(table) if self.lines_left_on_ring > 0 => {
                 self.lines_left_on_ring -= 1;
                 self.tide.request(table, &mut self.random)
@@ -125,7 +153,7 @@ impl Generator {
     /// A request that is mostly refused, by what the table holds.
     fn bad_request(&mut self) -> Request {
         let before_any_ring = Table::blank();
-        let table = self.desk.table().unwrap_or(&before_any_ring);
+        let table = self.planner.table().unwrap_or(&before_any_ring);
         traffic::refused(table, &mut self.random)
     }
 

@@ -1,7 +1,7 @@
 //! Openings and closings on the ring in force, served and refused ones.
 
 use super::rings::Shape;
-use crate::circuit::Circuit;
+use crate::circuit::{can_share, Circuit};
 use crate::opening::{Move, MOVES_MOST};
 use crate::random::Random;
 use crate::script::Request;
@@ -94,8 +94,8 @@ impl Tide {
     /// The nodes with a free transmitter and those with a free receiver, if there are both.
     fn free_ends(&self, table: &Table) -> Option<(Vec<u8>, Vec<u8>)> {
         let ports = Ports::of(table);
-        let mut sources = ports.nodes(|node| ports.free_transmitters[node] > 0);
-        let mut destinations = ports.nodes(|node| ports.free_receivers[node] > 0);
+        let mut sources = ports.free_senders();
+        let mut destinations = ports.free_receivers();
         if sources.is_empty() || destinations.is_empty() {
             return None;
         }
@@ -141,7 +141,8 @@ fn numbers_sharing(channel: &Channel) -> Vec<u32> {
 
 /// How rare the opening is: 0 by step 1, 2 for two moves, 1 for all others.
 fn worth(table: &Table, circuit: Circuit) -> usize {
-    let joins = |old: Lightpath| circuit.can_share(old.circuit, old.place.direction(), table.nodes);
+    let joins =
+        |old: Lightpath| can_share(table.nodes, old.place.direction(), old.circuit, circuit);
     if table.nonsharing().any(joins) {
         return 0;
     }
@@ -168,12 +169,12 @@ pub fn refused(table: &Table, random: &mut Random) -> Request {
         2 => circuit.destination = circuit.source,
         3 => circuit.number = live.unwrap_or(circuit.number),
         4 => {
-            let full = ports.nodes(|node| ports.free_transmitters[node] == 0);
+            let full = ports.nodes(|node| ports.transmitters_left[node] == 0);
             circuit.source = some_of(&full, random).unwrap_or(circuit.source);
         }
         5 => {
-            let free = ports.nodes(|node| ports.free_transmitters[node] > 0);
-            let full = ports.nodes(|node| ports.free_receivers[node] == 0);
+            let free = ports.free_senders();
+            let full = ports.nodes(|node| ports.receivers_left[node] == 0);
             circuit.source = some_of(&free, random).unwrap_or(circuit.source);
             circuit.destination = some_of(&full, random).unwrap_or(circuit.destination);
         }
@@ -200,24 +201,34 @@ fn several_faults(circuit: &mut Circuit, table: &Table, live: Option<u32>, rando
 }
 
 /// The free ports of each node of a ring; node 0 is no node.
-struct Ports {
+pub struct Ports {
     nodes: u8,
-    free_transmitters: [u32; NODES_MOST as usize + 1],
-    free_receivers: [u32; NODES_MOST as usize + 1],
+    transmitters_left: [u32; NODES_MOST as usize + 1],
+    receivers_left: [u32; NODES_MOST as usize + 1],
 }
 
 impl Ports {
-    fn of(table: &Table) -> Ports {
+    pub fn of(table: &Table) -> Ports {
         let mut free = [0; NODES_MOST as usize + 1];
         for node in 1..=table.nodes {
             free[usize::from(node)] = table.ports_at(node);
         }
-        let mut ports = Ports { nodes: table.nodes, free_transmitters: free, free_receivers: free };
+        let mut ports = Ports { nodes: table.nodes, transmitters_left: free, receivers_left: free };
         for circuit in table.circuits() {
-            ports.free_transmitters[usize::from(circuit.source)] -= 1;
-            ports.free_receivers[usize::from(circuit.destination)] -= 1;
+            ports.transmitters_left[usize::from(circuit.source)] -= 1;
+            ports.receivers_left[usize::from(circuit.destination)] -= 1;
         }
         ports
+    }
+
+    /// The nodes with a free transmitter.
+    pub fn free_senders(&self) -> Vec<u8> {
+        self.nodes(|node| self.transmitters_left[node] > 0)
+    }
+
+    /// The nodes with a free receiver.
+    pub fn free_receivers(&self) -> Vec<u8> {
+        self.nodes(|node| self.receivers_left[node] > 0)
     }
 
     fn nodes(&self, wanted: impl Fn(usize) -> bool) -> Vec<u8> {
@@ -225,7 +236,7 @@ impl Ports {
     }
 }
 
-fn some_of<T: Copy>(items: &[T], random: &mut Random) -> Option<T> {
+pub fn some_of<T: Copy>(items: &[T], random: &mut Random) -> Option<T> {
     if items.is_empty() {
         None
     } else {
@@ -237,7 +248,7 @@ fn any_node(table: &Table, random: &mut Random) -> u8 {
     random.between(1, usize::from(table.nodes).max(1)) as u8
 }
 
-fn off_ring(table: &Table, random: &mut Random) -> u8 {
+pub fn off_ring(table: &Table, random: &mut Random) -> u8 {
     let above = usize::from(table.nodes) + 1;
     match random.below(4) {
         0 => 0,
@@ -247,7 +258,7 @@ fn off_ring(table: &Table, random: &mut Random) -> u8 {
     }
 }
 
-fn remark(random: &mut Random) -> u16 {
+pub fn remark(random: &mut Random) -> u16 {
     match random.below(8) {
         0 => u16::MAX,
         1 | 2 => random.between(1, usize::from(u16::MAX)) as u16,
@@ -270,7 +281,7 @@ fn live_number(table: &Table, random: &mut Random) -> Option<u32> {
     some_of(&live, random)
 }
 
-fn free_number(table: &Table, random: &mut Random) -> u32 {
+pub fn free_number(table: &Table, random: &mut Random) -> u32 {
     loop {
         let number = number(random);
         if table.place_of(number).is_none() {

@@ -4,6 +4,7 @@
 use ring::circuit::Circuit;
 use ring::generator::{Generator, Kind};
 use ring::opening::{Move, Opening};
+use ring::program::Program;
 use ring::refusal::Refusal;
 use ring::script::Desk;
 use ring::table::Table;
@@ -23,7 +24,7 @@ pub fn open(table: &mut Table, circuit: Circuit) -> Result<Opening, Refusal> {
 
 /// Tables as generated scripts leave them, one of every `step` lines.
 pub fn tables(kind: Kind, seed: u64, lines: usize, step: usize) -> Vec<Table> {
-    let mut generator = Generator::new(kind, seed);
+    let mut generator = Generator::new(Program::Script, kind, seed);
     let mut desk = Desk::new();
     let mut tables = Vec::new();
     for line in 0..lines {

@@ -1,0 +1,232 @@
+//! What scripts can reach.
+
+use std::fmt;
+
+use crate::form::Fault;
+use crate::refusal::Refusal;
+use crate::table::Rule;
+
+#[derive(Clone, Copy, PartialEq, Eq, PartialOrd, Ord, Debug)]
+pub enum Event {
+    Step1,
+    Step2,
+    Step3aBothFit,
+    Step3aFirstFits,
+    Step3aSecondFits,
+    Step3bWithNew,
+    Step3bOld,
+    /// 3b where the lowest place of the direction is shared, so that c lies higher.
+    Step3bOverShared,
+    /// The new circuit shares, and the hops of the two total exactly N.
+    SharesWithTotalN,
+    Closed,
+    ClosedOneOfTwo,
+    RingAccepted,
+    RingReplaced,
+    RingRefused(u8),
+    OpenRefused(u8),
+    CloseRefused(u8),
+    RefusedBeforeRing,
+    RefusedEmpty,
+    RefusedTooLong,
+    RefusedSpaces,
+    RefusedCr,
+    RefusedNul,
+    RefusedHighByte,
+    RefusedWideNumber,
+    RefusedOther,
+    Exactly256Good,
+    LeadingZeroGood,
+    Read,
+    ReadBeforeRing,
+    ReadReplaced,
+    ReadWithRemark,
+    ReadWithPair,
+    ReadFault(Fault),
+    ReadFailed,
+    Written,
+    WriteFailed,
+    Load,
+    LinkCircuit,
+    LinkOfPair,
+    LinkNone,
+    LinkNoneThoughLit,
+    LinkRefused(u8),
+    /// A link question whose numbers would be good ones but for their bits above the lowest 8.
+    LinkRefusedWide,
+    Circuits,
+    CircuitsNone,
+    /// A line of this first word before there is a table.
+    RefusedBeforeTable(&'static str),
+    RefusedOddDigits,
+    RefusedCapitalDigit,
+    RefusedNoPath,
+    RefusedOver8192,
+    Exactly8192Good,
+}
+
+use Event::*;
+
+/// Every event that a script of the script program can show.
+pub const SCRIPT_EVENTS: [Event; 33] = [
+    Step1,
+    Step2,
+    Step3aBothFit,
+    Step3aFirstFits,
+    Step3aSecondFits,
+    Step3bWithNew,
+    Step3bOld,
+    Step3bOverShared,
+    SharesWithTotalN,
+    Closed,
+    ClosedOneOfTwo,
+    RingAccepted,
+    RingReplaced,
+    RingRefused(1),
+    RingRefused(2),
+    RingRefused(3),
+    OpenRefused(10),
+    OpenRefused(11),
+    OpenRefused(12),
+    OpenRefused(13),
+    OpenRefused(14),
+    CloseRefused(15),
+    RefusedBeforeRing,
+    RefusedEmpty,
+    RefusedTooLong,
+    RefusedSpaces,
+    RefusedCr,
+    RefusedNul,
+    RefusedHighByte,
+    RefusedWideNumber,
+    RefusedOther,
+    Exactly256Good,
+    LeadingZeroGood,
+];
+
+/// Every event that the other lines of the planning program can show.
+pub const PLAN_EVENTS: [Event; 42] = [
+    Read,
+    ReadBeforeRing,
+    ReadReplaced,
+    ReadWithRemark,
+    ReadWithPair,
+    ReadFault(Fault::Ring(Refusal::RingSize)),
+    ReadFault(Fault::Ring(Refusal::NodePorts)),
+    ReadFault(Fault::Ring(Refusal::RingPorts)),
+    ReadFault(Fault::Cut),
+    ReadFault(Fault::HighPlace),
+    ReadFault(Fault::UnknownField),
+    ReadFault(Fault::RemarkOfNone),
+    ReadFault(Fault::RemarkOfZero),
+    ReadFault(Fault::Tail),
+    ReadFault(Fault::Rule(Rule::Ends)),
+    ReadFault(Fault::Rule(Rule::Numbers)),
+    ReadFault(Fault::Rule(Rule::Ports)),
+    ReadFault(Fault::Rule(Rule::Order)),
+    ReadFault(Fault::Rule(Rule::Sharing)),
+    ReadFailed,
+    Written,
+    WriteFailed,
+    Load,
+    LinkCircuit,
+    LinkOfPair,
+    LinkNone,
+    LinkNoneThoughLit,
+    LinkRefused(10),
+    LinkRefused(16),
+    LinkRefused(17),
+    LinkRefusedWide,
+    Circuits,
+    CircuitsNone,
+    RefusedBeforeTable("write"),
+    RefusedBeforeTable("load"),
+    RefusedBeforeTable("link"),
+    RefusedBeforeTable("circuits"),
+    RefusedOddDigits,
+    RefusedCapitalDigit,
+    RefusedNoPath,
+    RefusedOver8192,
+    Exactly8192Good,
+];
+
+impl fmt::Display for Event {
+    fn fmt(&self, f: &mut fmt::Formatter) -> fmt::Result {
+        f.write_str(match self {
+            Step1 => "step 1",
+            Step2 => "step 2",
+            Step3aBothFit => "step 3a, both members fit",
+            Step3aFirstFits => "step 3a, the first member fits",
+            Step3aSecondFits => "step 3a, the second member fits",
+            Step3bWithNew => "step 3b, two moves",
+            Step3bOld => "step 3b, three moves",
+            Step3bOverShared => "  of 3b: the direction's lowest place is shared",
+            SharesWithTotalN => "  of all openings: shares with hops of N in total",
+            Closed => "closed",
+            ClosedOneOfTwo => "  of these: one of two at a place",
+            RingAccepted => "ring accepted",
+            RingReplaced => "  of these: in place of another",
+            RingRefused(number) => return write!(f, "ring refused {number}"),
+            OpenRefused(number) => return write!(f, "open refused {number}"),
+            CloseRefused(number) => return write!(f, "close refused {number}"),
+            RefusedBeforeRing => "line refused: before the first ring",
+            RefusedEmpty => "line refused: empty",
+            RefusedTooLong => "line refused: over 256 bytes",
+            RefusedSpaces => "line refused: spaces",
+            RefusedCr => "line refused: CR",
+            RefusedNul => "line refused: NUL",
+            RefusedHighByte => "line refused: byte above 127",
+            RefusedWideNumber => "line refused: number too wide",
+            RefusedOther => "line refused: other",
+            Exactly256Good => "good line of exactly 256 bytes",
+            LeadingZeroGood => "good line with leading zeros",
+            Read => "read",
+            ReadBeforeRing => "  of these: the first table",
+            ReadReplaced => "  of these: in place of another table",
+            ReadWithRemark => "  of these: with a remark",
+            ReadWithPair => "  of these: with two circuits at a place",
+            ReadFault(fault) => {
+                let number = fault.refusal().number();
+                return write!(f, "read refused {number}{}", detail(*fault));
+            }
+            ReadFailed => "read failed",
+            Written => "write",
+            WriteFailed => "write failed",
+            Load => "load",
+            LinkCircuit => "link circuit",
+            LinkOfPair => "  of these: one of two at the place",
+            LinkNone => "link none",
+            LinkNoneThoughLit => "  of these: the place is lit",
+            LinkRefused(number) => return write!(f, "link refused {number}"),
+            LinkRefusedWide => "  of these: good in the lowest 8 bits",
+            Circuits => "circuits",
+            CircuitsNone => "  of these: none",
+            RefusedBeforeTable(word) => {
+                return write!(f, "line refused: {word} before the first table")
+            }
+            RefusedOddDigits => "line refused: form of an odd number of digits",
+            RefusedCapitalDigit => "line refused: form with a capital digit",
+            RefusedNoPath => "line refused: write to something without @",
+            RefusedOver8192 => "line refused: over 8,192 bytes",
+            Exactly8192Good => "good line of exactly 8,192 bytes",
+        })
+    }
+}
+
+/// Which of the faults with the same refusal it is.
+fn detail(fault: Fault) -> &'static str {
+    match fault {
+        Fault::Ring(_) | Fault::Cut | Fault::Tail => "",
+        Fault::HighPlace => ": map bit at 2 x W or above",
+        Fault::UnknownField => ": field map bit 3 to 7",
+        Fault::RemarkOfNone => ": bit 2 without bit 1",
+        Fault::RemarkOfZero => ": a written remark of 0",
+        Fault::Rule(Rule::Limits) => ": limits",
+        Fault::Rule(Rule::UnusedFields) => ": unused fields",
+        Fault::Rule(Rule::Ends) => ": ends off the ring or equal",
+        Fault::Rule(Rule::Numbers) => ": a number twice",
+        Fault::Rule(Rule::Ports) => ": more circuits than ports",
+        Fault::Rule(Rule::Order) => ": the higher number first",
+        Fault::Rule(Rule::Sharing) => ": two that cannot share there",
+    }
+}

@@ -1,0 +1,135 @@
+//! What the lines of the planning program reach.
+
+use super::script::{narrow, sort_of_odd_bytes};
+use super::Event::*;
+use super::{Before, Coverage, Event};
+use crate::form;
+use crate::lines::words;
+use crate::plan::{parse, Answer, Command, Planner, Question, Source, LINE_MOST};
+use crate::report::circuit_on_link;
+use crate::script;
+use crate::table::{Channel, Table};
+
+impl Coverage {
+    /// Runs the line at the planner, counts what it reached and gives its answer.
+    pub fn run_plan_line(&mut self, planner: &mut Planner, line: &[u8]) -> Answer {
+        let before = Before::of(planner.table());
+        let answer = planner.run_line(line);
+        self.lines += 1;
+        match &answer {
+            Answer::Script(script::Answer::LineRefused) => self.saw(sort_of_refused(line)),
+            Answer::Script(script_answer) => {
+                self.saw_script_answer(line, script_answer, before, planner.table());
+            }
+            _ => self.saw_plan_answer(line, &answer, before, planner.table()),
+        }
+        answer
+    }
+
+    fn saw_plan_answer(
+        &mut self,
+        line: &[u8],
+        answer: &Answer,
+        before: Before,
+        table: Option<&Table>,
+    ) {
+        self.saw_if(line.len() == LINE_MOST, Exactly8192Good);
+        match (answer, table) {
+            (Answer::Read { .. }, Some(table)) => self.saw_read(before, table),
+            (Answer::ReadRefused(_), _) => self.saw_refused_form(line),
+            (Answer::ReadFailed, _) => self.saw(ReadFailed),
+            (Answer::Written(_) | Answer::FileWritten { .. }, _) => self.saw(Written),
+            (Answer::WriteFailed, _) => self.saw(WriteFailed),
+            (Answer::Load(_), _) => self.saw(Load),
+            (Answer::Link(_) | Answer::LinkRefused(_), Some(table)) => {
+                self.saw_link(line, answer, table);
+            }
+            (Answer::Circuits(circuits), _) => {
+                self.saw(Circuits);
+                self.saw_if(circuits.is_empty(), CircuitsNone);
+            }
+            _ => unreachable!("there is no such answer without a table"),
+        }
+    }
+
+    fn saw_read(&mut self, before: Before, table: &Table) {
+        self.saw(Read);
+        self.saw(if before.had_table { ReadReplaced } else { ReadBeforeRing });
+        self.saw_if(table.circuits().any(|circuit| circuit.remark != 0), ReadWithRemark);
+        self.saw_if(Before::of(Some(table)).shared_places > 0, ReadWithPair);
+    }
+
+    fn saw_refused_form(&mut self, line: &[u8]) {
+        if let Some(Command::Read(Source::Line(form))) = parse(line) {
+            if let Err(fault) = form::decode(&form) {
+                self.saw(ReadFault(fault));
+            }
+        }
+    }
+
+    fn saw_link(&mut self, line: &[u8], answer: &Answer, table: &Table) {
+        self.saw_numbers(line);
+        let Some(Command::Ask(Question::Link { link, wavelength, direction })) = parse(line) else {
+            unreachable!("the line asks of a link");
+        };
+        if let Answer::LinkRefused(refusal) = answer {
+            self.saw(LinkRefused(refusal.number()));
+            let [link, wavelength, direction] =
+                [link, wavelength, direction].map(|number| number % 256);
+            let wrapped = circuit_on_link(table, link, wavelength, direction);
+            self.saw_if(wrapped.is_ok(), LinkRefusedWide);
+            return;
+        }
+        let channel = table.channels[2 * wavelength as usize + direction as usize];
+        if matches!(answer, Answer::Link(Some(_))) {
+            self.saw(LinkCircuit);
+            self.saw_if(matches!(channel, Channel::Two(..)), LinkOfPair);
+        } else {
+            self.saw(LinkNone);
+            self.saw_if(channel != Channel::Unlit, LinkNoneThoughLit);
+        }
+    }
+}
+
+fn sort_of_refused(line: &[u8]) -> Event {
+    let word = words(line).next().unwrap_or_default();
+    if line.len() > LINE_MOST {
+        RefusedOver8192
+    } else if matches!(word, b"ring" | b"open" | b"close") && line.len() > script::LINE_MOST {
+        RefusedTooLong
+    } else if let Some(command) = parse(line) {
+        sort_before_table(&command)
+    } else if let Some(sort) = sort_of_odd_bytes(line) {
+        sort
+    } else if let Some(sort) = sort_of_odd_form(line) {
+        sort
+    } else if parse(&narrow(line)).is_some() {
+        RefusedWideNumber
+    } else {
+        RefusedOther
+    }
+}
+
+/// The sort of a well-formed line that came before the first table.
+fn sort_before_table(command: &Command) -> Event {
+    match command {
+        Command::Script(_) => RefusedBeforeRing,
+        Command::Read(_) => unreachable!("reading needs no table"),
+        Command::Ask(Question::Write | Question::WriteFile(_)) => RefusedBeforeTable("write"),
+        Command::Ask(Question::Load) => RefusedBeforeTable("load"),
+        Command::Ask(Question::Link { .. }) => RefusedBeforeTable("link"),
+        Command::Ask(Question::Circuits) => RefusedBeforeTable("circuits"),
+    }
+}
+
+/// The sort of a reading or writing whose form or path is not well formed.
+fn sort_of_odd_form(line: &[u8]) -> Option<Event> {
+    let words: Vec<&[u8]> = words(line).collect();
+    match words[..] {
+        [b"write", _] => Some(RefusedNoPath),
+        [b"read", digits] if !digits.iter().all(u8::is_ascii_hexdigit) => None,
+        [b"read", digits] if digits.len() % 2 == 1 => Some(RefusedOddDigits),
+        [b"read", _] => Some(RefusedCapitalDigit),
+        _ => None,
+    }
+}

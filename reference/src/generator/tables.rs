@@ -1,0 +1,147 @@
+//! Tables that meet the ring rules with circuits wherever they may stand, as no row of openings
+//! leaves them; and tables that break a ring rule.
+
+use super::traffic::{free_number, off_ring, remark, some_of, Ports};
+use crate::circuit::{can_share, Circuit};
+use crate::place::Place;
+use crate::random::Random;
+use crate::table::{Channel, Lightpath, Table, NODE_PORTS_MOST};
+
+/// A table of the ring with these ports, from no circuit up to as many as find room; or one with
+/// all places lit and hardly any shared, so that the next opening has to move circuits.
+pub fn scattered(ports: &[u8], random: &mut Random) -> Table {
+    let mut table = Table::make(ports.len() as u8, ports).expect("the ports are those of a ring");
+    let (circuits, share) = if random.percent(50) {
+        (table.places_in_use(), 2)
+    } else {
+        (random.between(0, table.ring_ports() as usize), 50)
+    };
+    for _ in 0..circuits {
+        if let Some(Lightpath { circuit, place }) = one_more(&table, share, random) {
+            table.set_up(circuit, place);
+        }
+    }
+    table
+}
+
+/// One circuit more and a place for it: in so many of a hundred one where it shares.
+fn one_more(table: &Table, share: usize, random: &mut Random) -> Option<Lightpath> {
+    let ports = Ports::of(table);
+    let circuit = Circuit {
+        number: free_number(table, random),
+        source: some_of(&ports.free_senders(), random)?,
+        destination: some_of(&ports.free_receivers(), random)?,
+        remark: remark(random),
+    };
+    if circuit.source == circuit.destination {
+        return None;
+    }
+    let (mut shared, mut unlit) = (Vec::new(), Vec::new());
+    for place in (0..table.places_in_use() as u8).map(Place) {
+        match table.channels[place.index()] {
+            Channel::Unlit => unlit.push(place),
+            Channel::One(old) if can_share(table.nodes, place.direction(), old, circuit) => {
+                shared.push(place);
+            }
+            _ => {}
+        }
+    }
+    let places = if unlit.is_empty() || random.percent(share) { shared } else { unlit };
+    Some(Lightpath { circuit, place: some_of(&places, random)? })
+}
+
+/// Changes the table so that it mostly breaks one of the rules for circuits.
+pub fn break_rule(table: &mut Table, random: &mut Random) {
+    let lightpaths: Vec<Lightpath> = table.lightpaths().collect();
+    let (Some(a), Some(b)) = (some_of(&lightpaths, random), some_of(&lightpaths, random)) else {
+        return;
+    };
+    let odd_node = off_ring(table, random);
+    match random.below(9) {
+        0 => change(table, a, |circuit| circuit.source = odd_node),
+        1 => change(table, a, |circuit| circuit.destination = odd_node),
+        2 => change(table, a, |circuit| circuit.destination = circuit.source),
+        3 => change(table, a, |circuit| circuit.number = b.circuit.number),
+        4 | 5 => turn_pairs(table),
+        6 => put_together(table, random),
+        7 => table.channels.swap(a.place.index(), a.place.index() ^ 1),
+        _ => move_port(table, random),
+    }
+}
+
+fn change(table: &mut Table, at: Lightpath, change: impl FnOnce(&mut Circuit)) {
+    match &mut table.channels[at.place.index()] {
+        Channel::Two(_, second) if *second == at.circuit => change(second),
+        Channel::One(first) | Channel::Two(first, _) => change(first),
+        Channel::Unlit => {}
+    }
+}
+
+/// Puts the higher number first at each place.
+fn turn_pairs(table: &mut Table) {
+    for channel in &mut table.channels {
+        if let Channel::Two(first, second) = *channel {
+            *channel = Channel::Two(second, first);
+        }
+    }
+}
+
+/// Puts two circuits that stand alone at the place of one of them; mostly they cannot share.
+fn put_together(table: &mut Table, random: &mut Random) {
+    let alone: Vec<Lightpath> = table.nonsharing().collect();
+    let (Some(a), Some(b)) = (some_of(&alone, random), some_of(&alone, random)) else {
+        return;
+    };
+    if a != b {
+        table.take_down(b.circuit.number, b.place);
+        table.set_up(b.circuit, a.place);
+    }
+}
+
+/// Gives a port of one node to another, so that the ring has as many as before.
+fn move_port(table: &mut Table, random: &mut Random) {
+    let nodes = usize::from(table.nodes);
+    let (from, to) = (random.below(nodes), random.below(nodes));
+    if table.ports[from] > 0 && table.ports[to] < NODE_PORTS_MOST {
+        table.ports[from] -= 1;
+        table.ports[to] += 1;
+    }
+}
+
+#[cfg(test)]
+mod tests {
+    use super::*;
+    use crate::generator::rings::Shape;
+    use crate::table::Rule;
+
+    fn tables(count: usize, random: &mut Random) -> Vec<Table> {
+        let shapes = [Shape::Small, Shape::Middling, Shape::Large];
+        let one = |index: usize| {
+            let ports = shapes[index % shapes.len()].ports(random);
+            scattered(&ports, random)
+        };
+        (0..count).map(one).collect()
+    }
+
+    #[test]
+    fn scattered_tables_meet_the_ring_rules() {
+        let tables = tables(300, &mut Random::new(1));
+        assert!(tables.iter().all(Table::meets_ring_rules));
+        assert!(tables.iter().any(|table| table.circuits().next().is_none()));
+        let is_full = |table: &Table| table.nonsharing().count() == table.places_in_use();
+        assert!(tables.iter().any(|table| table.nodes == 64 && is_full(table)));
+    }
+
+    #[test]
+    fn each_rule_for_circuits_is_broken() {
+        let mut random = Random::new(2);
+        let mut broken = Vec::new();
+        for mut table in tables(600, &mut random) {
+            break_rule(&mut table, &mut random);
+            broken.extend(table.broken_rule());
+        }
+        broken.sort();
+        broken.dedup();
+        assert_eq!(broken, [Rule::Ends, Rule::Numbers, Rule::Ports, Rule::Order, Rule::Sharing]);
+    }
+}
