@@ -1,0 +1,207 @@
+//! One step of the day as data: the request, the answer, and the ring before and after.
+
+use std::rc::Rc;
+
+use crate::table::{Circuit, Table};
+
+/// A running circuit that changed its place.
+#[derive(Clone, Copy, PartialEq, Eq, Debug)]
+pub struct Move {
+    pub number: u32,
+    pub from: u8,
+    pub to: u8,
+}
+
+/// What the answer says, as far as the page tells it in words.
+#[derive(Clone, PartialEq, Eq, Debug)]
+pub enum Outcome {
+    /// A new ring.
+    Ring,
+    /// A ring from a saved form.
+    Read,
+    Opened {
+        number: u32,
+        moves: Vec<Move>,
+        looks: u32,
+    },
+    Closed {
+        number: u32,
+    },
+    Refused {
+        number: u32,
+    },
+    LineRefused,
+    /// `read` or `write` of a file that cannot be had.
+    Failed,
+    /// The answer to a question, which changes nothing.
+    Told,
+}
+
+#[derive(Clone, PartialEq, Eq, Debug)]
+pub struct Step {
+    /// The line of the script, from 1.
+    pub number: usize,
+    pub request: String,
+    pub answer: Vec<String>,
+    pub outcome: Outcome,
+    /// Nothing where no ring was lit yet.
+    pub before: Option<Rc<Table>>,
+    pub after: Option<Rc<Table>>,
+}
+
+/// What a circuit of the ring after a step went through in it.
+#[derive(Clone, Copy, PartialEq, Eq, Debug)]
+pub enum Mark {
+    Same,
+    New,
+    /// From that place.
+    Moved(u8),
+}
+
+impl Step {
+    /// The words of the request.
+    pub fn words(&self) -> Vec<&str> {
+        self.request.split(' ').collect()
+    }
+
+    /// A number of the request, by the position of its word.
+    pub fn asked(&self, position: usize) -> Option<u32> {
+        self.words().get(position)?.parse().ok()
+    }
+
+    /// The ring before, if the step changed what stands on that very ring.
+    fn changed(&self) -> Option<&Table> {
+        match self.outcome {
+            Outcome::Opened { .. } | Outcome::Closed { .. } => self.before.as_deref(),
+            _ => None,
+        }
+    }
+
+    pub fn mark(&self, circuit: &Circuit) -> Mark {
+        match self.changed().map(|before| before.find(circuit.number)) {
+            None => Mark::Same,
+            Some(None) => Mark::New,
+            Some(Some(old)) if old.place == circuit.place => Mark::Same,
+            Some(Some(old)) => Mark::Moved(old.place),
+        }
+    }
+
+    /// The circuits of the ring before that have left their places: moved or closed.
+    pub fn left(&self) -> Vec<&Circuit> {
+        let (Some(before), Some(after)) = (self.changed(), self.after.as_deref()) else {
+            return Vec::new();
+        };
+        let place_after = |circuit: &Circuit| after.find(circuit.number).map(|found| found.place);
+        before.circuits.iter().filter(|c| place_after(c) != Some(c.place)).collect()
+    }
+
+    pub fn moves(&self) -> &[Move] {
+        match &self.outcome {
+            Outcome::Opened { moves, .. } => moves,
+            _ => &[],
+        }
+    }
+}
+
+/// What an answer says; its first line tells the kind.
+pub fn outcome_of(answer: &[String]) -> Option<Outcome> {
+    let words: Vec<&str> = answer.first()?.split(' ').collect();
+    Some(match words[..] {
+        ["line", "refused"] => Outcome::LineRefused,
+        ["ring" | "close" | "read" | "link", "refused", refusal]
+        | ["open", _, "refused", refusal] => Outcome::Refused { number: refusal.parse().ok()? },
+        ["ring", _, "wavelengths", _] => Outcome::Ring,
+        ["read", _, "wavelengths", _] => Outcome::Read,
+        ["open", number, "place", _, "moves", _, "looks", looks] => Outcome::Opened {
+            number: number.parse().ok()?,
+            moves: answer.iter().skip(1).map(|line| move_of(line)).collect::<Option<_>>()?,
+            looks: looks.parse().ok()?,
+        },
+        ["close", number] => Outcome::Closed { number: number.parse().ok()? },
+        ["read" | "write", "failed"] => Outcome::Failed,
+        _ => Outcome::Told,
+    })
+}
+
+/// A line `move NUMBER from PLACE to PLACE`.
+fn move_of(line: &str) -> Option<Move> {
+    let words: Vec<&str> = line.split(' ').collect();
+    match words[..] {
+        ["move", number, "from", from, "to", to] => Some(Move {
+            number: number.parse().ok()?,
+            from: from.parse().ok()?,
+            to: to.parse().ok()?,
+        }),
+        _ => None,
+    }
+}
+
+#[cfg(test)]
+mod tests {
+    use super::*;
+
+    fn outcome(answer: &str) -> Option<Outcome> {
+        outcome_of(&answer.lines().map(String::from).collect::<Vec<_>>())
+    }
+
+    #[test]
+    fn each_kind_of_answer() {
+        assert_eq!(outcome("line refused"), Some(Outcome::LineRefused));
+        assert_eq!(outcome("ring 5 wavelengths 2"), Some(Outcome::Ring));
+        assert_eq!(outcome("read 5 wavelengths 2"), Some(Outcome::Read));
+        assert_eq!(outcome("close 13"), Some(Outcome::Closed { number: 13 }));
+        assert_eq!(outcome("write failed"), Some(Outcome::Failed));
+        assert_eq!(outcome("link none"), Some(Outcome::Told));
+        for refused in ["ring refused 10", "open 3 refused 10", "close refused 10"] {
+            assert_eq!(outcome(refused), Some(Outcome::Refused { number: 10 }));
+        }
+        let opened = outcome("open 15 place 2 moves 1 looks 2\nmove 12 from 1 to 0");
+        let moves = vec![Move { number: 12, from: 1, to: 0 }];
+        assert_eq!(opened, Some(Outcome::Opened { number: 15, moves, looks: 2 }));
+        assert_eq!(outcome(""), None);
+        assert_eq!(outcome("open 15 place 2 moves 1 looks 2\nmove 12"), None);
+    }
+
+    fn step(outcome: Outcome) -> Step {
+        let circuit = |number, place| Circuit {
+            number,
+            source: number as u8,
+            destination: number as u8 % 3 + 1,
+            remark: 0,
+            place,
+        };
+        let table =
+            |circuits| Some(Rc::new(Table { ports: vec![2, 2, 2], circuits, loads: vec![0; 6] }));
+        Step {
+            number: 1,
+            request: "open 03 1 x".into(),
+            answer: Vec::new(),
+            outcome,
+            before: table(vec![circuit(1, 0), circuit(2, 2)]),
+            after: table(vec![circuit(2, 0), circuit(3, 3)]),
+        }
+    }
+
+    #[test]
+    fn the_rings_before_and_after_tell_what_is_new_moved_and_left() {
+        let step = step(Outcome::Opened { number: 3, moves: Vec::new(), looks: 0 });
+        let after = step.after.clone().unwrap();
+        assert_eq!(step.mark(&after.circuits[0]), Mark::Moved(2));
+        assert_eq!(step.mark(&after.circuits[1]), Mark::New);
+        assert_eq!(step.left().iter().map(|c| c.number).collect::<Vec<_>>(), [1, 2]);
+    }
+
+    #[test]
+    fn another_ring_marks_nothing() {
+        let step = step(Outcome::Ring);
+        let after = step.after.clone().unwrap();
+        assert!(after.circuits.iter().all(|circuit| step.mark(circuit) == Mark::Same));
+        assert!(step.left().is_empty());
+    }
+
+    #[test]
+    fn numbers_of_the_request_are_read_by_value() {
+        let step = step(Outcome::LineRefused);
+        assert_eq!((step.asked(1), step.asked(3), step.asked(4)), (Some(3), None, None));
+    }
+}

@@ -1,0 +1,174 @@
+//! What happened in a step, in words. All of it is read off the answers: the page does not know
+//! how `ringplan` decides.
+
+use crate::opening;
+use crate::refusal;
+use crate::step::{Outcome, Step};
+use crate::table::Table;
+
+/// A step told: the main point, the reasons one by one, and what a desk does next if it must.
+#[derive(PartialEq, Eq, Debug, Default)]
+pub struct Telling {
+    pub point: String,
+    pub reasons: Vec<String>,
+    pub next: Option<String>,
+}
+
+impl Telling {
+    pub fn plain(point: impl Into<String>) -> Telling {
+        Telling { point: point.into(), ..Telling::default() }
+    }
+}
+
+pub fn tell(step: &Step) -> Telling {
+    match &step.outcome {
+        Outcome::Opened { number, moves, looks } => opening::tell(step, *number, moves, *looks),
+        Outcome::Refused { number } => refusal::tell(step, *number),
+        Outcome::LineRefused => refusal::tell_line(step),
+        Outcome::Failed => Telling {
+            point: "The file cannot be had, so nothing was done.".into(),
+            reasons: Vec::new(),
+            next: Some("Look up the file's path, and whether it may be read or written.".into()),
+        },
+        Outcome::Ring => step.after.as_deref().map_or_else(Telling::default, |ring| Telling {
+            point: format!("A ring of {} nodes was lit. {}", ring.nodes(), dimensions(ring)),
+            reasons: earlier_ring(step),
+            next: None,
+        }),
+        Outcome::Read => step.after.as_deref().map_or_else(Telling::default, |ring| Telling {
+            point: format!(
+                "A saved ring of {} nodes was read, with {}. {}",
+                ring.nodes(),
+                count(ring.circuits.len(), "circuit"),
+                dimensions(ring)
+            ),
+            reasons: earlier_ring(step),
+            next: None,
+        }),
+        Outcome::Closed { number } => tell_closing(step, *number),
+        Outcome::Told => Telling::plain(told(&step.answer[0]) + " Nothing changed."),
+    }
+}
+
+fn told(answer: &str) -> String {
+    let words: Vec<&str> = answer.split(' ').collect();
+    match words[..] {
+        ["link", "circuit", number] => format!("Circuit {number} runs there."),
+        ["link", "none"] => "No circuit runs there.".into(),
+        ["load", ..] => "The loads of all links were asked for.".into(),
+        ["circuits", ..] => "The running circuits were asked for.".into(),
+        ["write", ..] => "The ring was saved.".into(),
+        _ => "A question was answered.".into(),
+    }
+}
+
+fn dimensions(ring: &Table) -> String {
+    let pairs = count(ring.port_pairs().into(), "pair");
+    match ring.places() {
+        0 => "No node has a transmitter or receiver, so there is no wavelength.".into(),
+        places => format!(
+            "Its {pairs} of transmitter and receiver, divided by three and rounded up, give {} \
+             each way round: places 0 to {}. Even places run clockwise, odd ones counterclockwise.",
+            count(ring.wavelengths().into(), "wavelength"),
+            places - 1
+        ),
+    }
+}
+
+fn earlier_ring(step: &Step) -> Vec<String> {
+    match &step.before {
+        Some(ring) if !ring.circuits.is_empty() => vec![format!(
+            "The earlier ring is gone, and with it its {}.",
+            count(ring.circuits.len(), "circuit")
+        )],
+        _ => Vec::new(),
+    }
+}
+
+fn tell_closing(step: &Step, number: u32) -> Telling {
+    let closed = step.before.as_deref().and_then(|ring| ring.find(number));
+    let (Some(closed), Some(after)) = (closed, step.after.as_deref()) else {
+        return Telling::plain(format!("Circuit {number} was closed."));
+    };
+    let place = closed.place;
+    let left = match after.at(place).next() {
+        Some(other) => format!("Circuit {} now stands alone at place {place}.", other.number),
+        None => format!("Place {place} is free now."),
+    };
+    Telling {
+        point: format!("Circuit {number} was closed, and nothing moved. {left}"),
+        reasons: vec![format!(
+            "A transmitter at node {} and a receiver at node {} are free again.",
+            closed.source, closed.destination
+        )],
+        next: None,
+    }
+}
+
+/// A count with its noun: `1 circuit`, `3 circuits`.
+pub fn count(number: usize, noun: &str) -> String {
+    match number {
+        1 => format!("1 {noun}"),
+        _ => format!("{number} {noun}s"),
+    }
+}
+
+/// A small number as a word.
+pub fn spelled(number: usize) -> String {
+    match number {
+        0 => "no".into(),
+        1 => "one".into(),
+        2 => "two".into(),
+        3 => "three".into(),
+        4 => "four".into(),
+        _ => number.to_string(),
+    }
+}
+
+/// `1st`, `2nd`, `3rd`, `4th`, .., `11th`.
+pub fn ordinal(number: u32) -> String {
+    let ending = match (number % 10, number % 100) {
+        (_, 11..=13) => "th",
+        (1, _) => "st",
+        (2, _) => "nd",
+        (3, _) => "rd",
+        _ => "th",
+    };
+    format!("{number}{ending}")
+}
+
+/// Numbers in a sentence: `1`, `1 and 2`, `1, 2 and 3`.
+pub fn listed<T: ToString>(items: &[T]) -> String {
+    let items: Vec<String> = items.iter().map(T::to_string).collect();
+    match items.split_last() {
+        None => String::new(),
+        Some((last, [])) => last.clone(),
+        Some((last, front)) => format!("{} and {last}", front.join(", ")),
+    }
+}
+
+/// The first letter made a capital.
+pub fn capital(text: &str) -> String {
+    let mut characters = text.chars();
+    characters.next().map_or_else(String::new, |first| {
+        first.to_uppercase().collect::<String>() + characters.as_str()
+    })
+}
+
+#[cfg(test)]
+mod tests {
+    use super::*;
+
+    #[test]
+    fn numbers_in_sentences() {
+        let ordinals: Vec<String> = [1, 2, 3, 4, 11, 12, 13, 21, 112].map(ordinal).into();
+        assert_eq!(ordinals, ["1st", "2nd", "3rd", "4th", "11th", "12th", "13th", "21st", "112th"]);
+        assert_eq!(count(1, "move"), "1 move");
+        assert_eq!(count(0, "move"), "0 moves");
+        assert_eq!(listed(&[1]), "1");
+        assert_eq!(listed(&[1, 2, 3]), "1, 2 and 3");
+        assert_eq!(listed::<u8>(&[]), "");
+        assert_eq!(capital("both"), "Both");
+        assert_eq!(spelled(3), "three");
+    }
+}

@@ -1,0 +1,53 @@
+//! The command by its statuses and its one sentence on standard error.
+
+use std::fs::File;
+use std::path::Path;
+use std::process::{Command, Output, Stdio};
+
+const SCRIPT: &str = concat!(env!("CARGO_MANIFEST_DIR"), "/../examples/filling.script");
+
+fn command(ringplan: &str, arguments: &[&str]) -> Command {
+    let mut command = Command::new(env!("CARGO_BIN_EXE_ringpage"));
+    command.env("RINGPLAN", ringplan).args(arguments);
+    command
+}
+
+fn run(ringplan: &str, arguments: &[&str]) -> Output {
+    command(ringplan, arguments).output().expect("ringpage")
+}
+
+/// One sentence, and nothing on standard output.
+fn assert_fails(output: &Output, status: i32, words: &str) {
+    let said = String::from_utf8_lossy(&output.stderr);
+    assert_eq!(output.status.code(), Some(status), "{said}");
+    assert!(said.starts_with("ringpage: ") && said.contains(words), "{said}");
+    assert_eq!(said.lines().count(), 1, "{said}");
+    assert!(output.stdout.is_empty());
+}
+
+#[test]
+fn help_and_what_is_not_understood() {
+    let help = run("/no/such/ringplan", &["--help"]);
+    assert!(help.status.success() && help.stdout.starts_with(b"usage: ringpage"));
+    assert_fails(&run("true", &["--page", SCRIPT]), 2, "unknown option --page");
+    assert_fails(&run("true", &[]), 2, "which script?");
+    assert_fails(&run("true", &["--steps", "9..3", SCRIPT]), 2, "ends before it begins");
+}
+
+#[test]
+fn what_cannot_be_read_or_run() {
+    assert_fails(&run("true", &["/no/such/script"]), 1, "cannot be read");
+    assert_fails(&run("/no/such/ringplan", &[SCRIPT]), 1, "ringplan cannot be started");
+    assert_fails(&run("true", &[SCRIPT]), 1, "ringplan ended before it had answered `ring 6");
+    assert_fails(&run("yes", &[SCRIPT]), 1, "does not end");
+}
+
+#[test]
+fn a_page_that_cannot_be_written() {
+    if !Path::new("/dev/full").exists() {
+        return;
+    }
+    let full = File::options().write(true).open("/dev/full").expect("a full device");
+    let output = command("true", &["--help"]).stdout(full).stderr(Stdio::piped()).output();
+    assert_fails(&output.expect("ringpage"), 1, "the page cannot be written");
+}

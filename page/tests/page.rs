@@ -1,0 +1,141 @@
+//! Whole pages, made with `ringplan`: the environment variable RINGPLAN names it, else it is the
+//! one that the repository builds.
+
+mod common;
+
+use std::collections::BTreeSet;
+use std::path::{Path, PathBuf};
+use std::{env, fs};
+
+use common::links::{answered, arcs, cells};
+use common::xml::{parse, Element};
+use ringpage::day::{self, Choice, Day};
+use ringpage::drawing::View;
+use ringpage::picture::picture;
+use ringpage::{chart, page, ring, ringplan};
+
+fn top() -> PathBuf {
+    Path::new(env!("CARGO_MANIFEST_DIR")).join("..")
+}
+
+fn program() -> PathBuf {
+    env::var_os("RINGPLAN").map_or_else(|| top().join("target/bin/ringplan"), PathBuf::from)
+}
+
+fn run(script: &[u8], steps: Choice) -> Day {
+    let mut plan = ringplan::start(&program()).expect("ringplan");
+    day::run(&mut plan, script, steps).expect("a day")
+}
+
+fn example(name: &str) -> Vec<u8> {
+    fs::read(top().join(format!("examples/{name}.script"))).expect("an example")
+}
+
+const EXAMPLES: [&str; 4] = ["01", "dimensions", "filling", "refusals"];
+
+/// Elements of HTML that have no inside; all others have a beginning and an end.
+const VOID: [&str; 2] = ["meta", "input"];
+
+/// The page as XML whose reading as HTML is the same, with each link in it leading somewhere.
+fn assert_good(text: &str) -> Vec<Element> {
+    let elements = parse(text).unwrap_or_else(|fault| panic!("{fault}"));
+    let in_svg = |element: &Element| element.inside.iter().any(|name| name == "svg");
+    for element in elements.iter().filter(|element| element.name != "svg" && !in_svg(element)) {
+        assert_eq!(element.empty, VOID.contains(&element.name.as_str()), "{element:?}");
+    }
+    let mut ids = BTreeSet::new();
+    for id in elements.iter().map(|element| element.attribute("id")).filter(|id| !id.is_empty()) {
+        assert!(ids.insert(id), "{id} twice");
+    }
+    for element in &elements {
+        let href = element.attribute("href").strip_prefix('#');
+        let labelled = Some(element.attribute("aria-labelledby")).filter(|id| !id.is_empty());
+        for id in href.into_iter().chain(labelled) {
+            assert!(ids.contains(id), "#{id}");
+        }
+        for url in element.text.split("url(#").skip(1) {
+            let id = url.split(')').next().unwrap_or("");
+            assert!(ids.contains(id), "url(#{id})");
+        }
+        assert!(!element.has("src") && !element.attribute("href").contains("//"), "{element:?}");
+    }
+    elements
+}
+
+#[test]
+fn pages_are_well_formed_and_have_every_step() {
+    for name in EXAMPLES {
+        let script = example(name);
+        let day = run(&script, None);
+        let lines = script.split(|&byte| byte == b'\n').count() - 1;
+        let text = page::page(name, &day);
+        let elements = assert_good(&text);
+        let steps = elements.iter().filter(|element| element.name == "section").count();
+        assert_eq!((day.lines, steps), (lines, lines), "{name}");
+        assert!(text.contains(&format!("All {lines} lines of the script are shown.")));
+    }
+}
+
+/// The answers to `circuits` come from a run of their own, line by line.
+#[test]
+fn every_step_is_drawn_over_the_links_of_its_circuits() {
+    for name in EXAMPLES {
+        let script = example(name);
+        let mut plan = ringplan::start(&program()).expect("ringplan");
+        for step in run(&script, None).steps {
+            plan.ask(step.request.as_bytes()).expect("an answer");
+            let circuits = plan.ask(b"circuits").expect("an answer");
+            let Some(view) = View::after(&step) else {
+                assert_eq!(circuits, ["line refused"]);
+                continue;
+            };
+            let nodes = view.table.nodes();
+            let expected = answered(nodes, &circuits);
+            assert_eq!(arcs(nodes, &ring::draw(view).svg("")), expected, "{name} {}", step.number);
+            assert_eq!(
+                cells(view.table, &chart::draw(view).sized()),
+                expected,
+                "{name} {}",
+                step.number
+            );
+        }
+    }
+}
+
+#[test]
+fn pictures_stand_by_themselves() {
+    for name in EXAMPLES {
+        for step in run(&example(name), None).steps {
+            let elements = assert_good(&picture(&step));
+            assert_eq!(elements[0].attribute("xmlns"), "http://www.w3.org/2000/svg");
+        }
+    }
+}
+
+#[test]
+fn a_long_script_shows_its_last_200_steps_or_those_chosen() {
+    let mut script = b"ring 3 1 1 1\n".to_vec();
+    script.extend(b"open 7 1 2 0\nclose 7\n".repeat(150));
+    let day = run(&script, None);
+    assert_eq!((day.lines, day.steps.len(), day.steps[0].number), (301, 200, 102));
+    assert!(day.steps[0].before.is_some());
+    let text = page::page("long", &day);
+    assert!(text.contains("The script has 301 lines; the last 200 are shown."));
+    let chosen = run(&script, Some((102, 103)));
+    assert_eq!(chosen.steps[..], day.steps[..2]);
+    let text = page::page("long", &chosen);
+    assert!(text.contains("The script has 301 lines; lines 102 to 103 are shown."));
+}
+
+#[test]
+fn scripts_of_any_bytes_make_good_pages() {
+    let mut script: Vec<u8> = (0..=255).collect();
+    script.extend(
+        b"\n<b>&amp;\"']]>\nring 3 1 1 1\r\nring 3 1 1 1\n\nload\ncircuits\nwrite\nread -\n",
+    );
+    script.extend([b'7'; 20_000]);
+    let day = run(&script, None);
+    assert_eq!(day.lines, 11);
+    assert_good(&page::page("<&>", &day));
+    assert_good(&page::page("empty", &run(b"", None)));
+}

@@ -1,0 +1,284 @@
+//! Steps told in words, from answers made by hand.
+
+mod common;
+
+use common::rings::{opening_107, step, table, Row, AFTER_107, FILLING_PORTS};
+use ringpage::step::Step;
+use ringpage::words::{tell, Telling};
+
+fn on_filling(request: &str, answer: &str, before: &[Row], after: &[Row]) -> Telling {
+    let ring = |rows| Some(table(&FILLING_PORTS, rows));
+    tell(&step(request, answer, ring(before), ring(after)))
+}
+
+/// The rows with some replaced by number, and others added.
+fn with(rows: &[Row], changed: &[Row]) -> Vec<Row> {
+    let kept = rows.iter().filter(|row| changed.iter().all(|other| other.0 != row.0));
+    kept.chain(changed).copied().collect()
+}
+
+fn without(rows: &[Row], number: u32) -> Vec<Row> {
+    rows.iter().filter(|row| row.0 != number).copied().collect()
+}
+
+fn after_108() -> Vec<Row> {
+    with(&AFTER_107, &[(104, 1, 2, 0), (102, 6, 5, 3), (108, 5, 3, 3)])
+}
+
+#[test]
+fn why_107_needed_three_moves() {
+    let told = tell(&opening_107());
+    assert_eq!(
+        told.point,
+        "No place was free: circuits 101 and 105 were put together, 102 made room, three moves. Circuit \
+         107 is at place 4."
+    );
+    assert_eq!(
+        told.reasons,
+        [
+            "No place was free: all 6 had a circuit. Two circuits that stood alone had to share \
+             one place, so that one place became free.",
+            "Pairs of the circuits that stood alone, 107 among them, were looked at in order. The \
+             4th pair, 101 and 105, was the first in which one ends where the other begins: 105 \
+             ends at node 3, where 101 begins.",
+            "Clockwise both would need link 4, so there they cannot share. Counterclockwise they \
+             have no link in common. But both stood clockwise (places 0 and 4), so both had to \
+             move.",
+            "102 stood alone at place 1, which runs counterclockwise. It made room there: it moved \
+             to place 0, which 101 left.",
+            "101 moved from place 0 to place 1, and 105 moved from place 4 to place 1. There the \
+             two share.",
+            "107 took place 4, which 105 left. Three moves in all: 102, 101 and 105.",
+        ]
+    );
+    assert_eq!(told.next, None);
+}
+
+#[test]
+fn a_pair_with_the_new_circuit() {
+    let told = on_filling(
+        "open 108 5 3 0",
+        "open 108 place 3 moves 2 looks 5\nmove 104 from 3 to 0\nmove 102 from 0 to 3",
+        &AFTER_107,
+        &after_108(),
+    );
+    assert_eq!(
+        told.point,
+        "No place was free: circuits 102 and 108 were put together, 104 made room, two moves. Circuit \
+         108 is at place 3."
+    );
+    assert_eq!(
+        told.reasons[2..],
+        [
+            "Clockwise both would need links 1, 2 and 6, so there they cannot share. \
+             Counterclockwise they have no link in common. But 102 stood clockwise (place 0), so \
+             it had to move.",
+            "104 stood alone at place 3, which runs counterclockwise. It made room there: it moved \
+             to place 0, which 102 left.",
+            "102 moved from place 0 to place 3. There the two share.",
+            "108 joined 102 at place 3. Two moves in all: 104 and 102.",
+        ]
+    );
+}
+
+#[test]
+fn a_pair_that_stands_the_right_way_already() {
+    let before = after_108();
+    let told = on_filling(
+        "open 109 5 6 0",
+        "open 109 place 4 moves 1 looks 2\nmove 107 from 4 to 0",
+        &before,
+        &with(&before, &[(107, 3, 1, 0), (109, 5, 6, 4)]),
+    );
+    assert_eq!(
+        told.point,
+        "No place was free: circuits 104 and 107 were put together, one move. Circuit 109 is at \
+         place 4."
+    );
+    assert_eq!(
+        told.reasons[2],
+        "Counterclockwise both would need link 2, so there they cannot share. Clockwise they have \
+         no link in common. Both stood clockwise already (places 0 and 4), so only one had to move."
+    );
+    assert_eq!(told.reasons[4], "109 took place 4, which 107 left. One move in all: 107.");
+}
+
+#[test]
+fn a_pair_there_and_back_shares_clockwise_only() {
+    let ring = |rows: &[Row]| Some(table(&[2, 2, 2], rows));
+    let told = tell(&step(
+        "open 5 3 2 0",
+        "open 5 place 3 moves 3 looks 1\nmove 2 from 0 to 1\nmove 1 from 1 to 0\nmove 3 from 3 to 0",
+        ring(&[(2, 3, 1, 0), (1, 1, 2, 1), (4, 2, 3, 2), (3, 2, 1, 3)]),
+        ring(&[(1, 1, 2, 0), (3, 2, 1, 0), (2, 3, 1, 1), (4, 2, 3, 2), (5, 3, 2, 3)]),
+    ));
+    assert_eq!(
+        told.reasons[2],
+        "A pair that runs there and back shares clockwise only. Clockwise they have no link in \
+         common. But both stood counterclockwise (places 1 and 3), so both had to move."
+    );
+}
+
+#[test]
+fn a_circuit_that_joins_names_where_the_two_meet() {
+    let alone = without(&AFTER_107, 105);
+    let joins = |request: &str, row: Row| {
+        let answer = format!("open {} place {} moves 0 looks 0", row.0, row.3);
+        on_filling(request, &answer, &alone, &with(&alone, &[row])).point
+    };
+    assert_eq!(
+        joins("open 110 4 3 0", (110, 4, 3, 1)),
+        "Circuit 110 joined circuit 101 at place 1: 110 ends at node 3, where 101 begins."
+    );
+    assert_eq!(
+        joins("open 111 5 4 0", (111, 5, 4, 1)),
+        "Circuit 111 joined circuit 101 at place 1: 101 ends at node 5, where 111 begins."
+    );
+    let back = on_filling(
+        "open 112 2 1 0",
+        "open 112 place 0 moves 0 looks 0",
+        &[(104, 1, 2, 0)],
+        &[(104, 1, 2, 0), (112, 2, 1, 0)],
+    );
+    assert_eq!(
+        back.point,
+        "Circuit 112 joined circuit 104 at place 0: 104 and 112 run there and back between nodes 1 \
+         and 2."
+    );
+    assert_eq!(
+        back.reasons[0],
+        "104 stood alone at place 0, which runs clockwise. There 104 uses link 1, and 112 uses \
+         links 2, 3, 4, 5 and 6: no link in common, so one wavelength carries both."
+    );
+}
+
+#[test]
+fn a_circuit_that_stays_alone() {
+    let first = (101, 3, 5, 0);
+    let told = on_filling("open 101 3 5 0", "open 101 place 0 moves 0 looks 0", &[], &[first]);
+    assert_eq!(told.point, "Circuit 101 took the lowest free place, place 0, clockwise.");
+    assert_eq!(told.reasons[0], "The ring was empty.");
+    let rows = [first, (102, 6, 5, 1)];
+    let told = on_filling("open 102 6 5 0", "open 102 place 1 moves 0 looks 0", &[first], &rows);
+    assert_eq!(told.point, "Circuit 102 took the lowest free place, place 1, counterclockwise.");
+    assert_eq!(told.reasons[0], "No circuit that stood alone could share its place with 102.");
+}
+
+#[test]
+fn closing() {
+    let closed = |number: u32| {
+        let request = format!("close {number}");
+        on_filling(&request, &request, &AFTER_107, &without(&AFTER_107, number)).point
+    };
+    assert_eq!(
+        closed(105),
+        "Circuit 105 was closed, and nothing moved. Circuit 101 now stands alone at place 1."
+    );
+    assert_eq!(closed(103), "Circuit 103 was closed, and nothing moved. Place 2 is free now.");
+}
+
+#[test]
+fn rings() {
+    let ring = |ports: &[u8], before| {
+        tell(&step("ring ..", "ring 3 wavelengths 1", before, Some(table(ports, &[]))))
+    };
+    assert_eq!(
+        ring(&[2, 1, 1], None).point,
+        "A ring of 3 nodes was lit. Its 4 pairs of transmitter and receiver, divided by three and \
+         rounded up, give 2 wavelengths each way round: places 0 to 3. Even places run clockwise, \
+         odd ones counterclockwise."
+    );
+    assert!(ring(&[0, 0, 0], None).point.ends_with("so there is no wavelength."));
+    let before = Some(table(&[1, 1, 1], &[(7, 1, 2, 0)]));
+    assert_eq!(
+        ring(&[1, 1, 1], before).reasons,
+        ["The earlier ring is gone, and with it its 1 circuit."]
+    );
+}
+
+fn refused(request: &str, answer: &str) -> (String, String) {
+    let told = on_filling(request, answer, &AFTER_107, &AFTER_107);
+    (told.point, told.next.expect("what a desk does next"))
+}
+
+#[test]
+fn refusals_say_who_is_in_the_way() {
+    for (request, answer, expected) in [
+        ("ring 2 1 1", "ring refused 1", "this line has 2 nodes and 2 port counts."),
+        ("ring 3 1 65 1", "ring refused 2", "Node 2 has 65 ports; 64 is the most."),
+        ("ring 4 64 64 64 1", "ring refused 3", "All 193 ports together are above 192."),
+        ("open 9 1 7 0", "open 9 refused 10", "Node 7 is not on the ring, which has nodes 1 to 6."),
+        ("open 9 0 7 0", "open 9 refused 10", "Nodes 0 and 7 are not on the ring,"),
+        ("open 9 2 2 0", "open 9 refused 11", "begin and end at the same node, 2."),
+        ("open 101 5 6 0", "open 101 refused 12", "is running already, from node 3 to node 5."),
+        (
+            "open 9 2 4 0",
+            "open 9 refused 13",
+            "Node 2 has one transmitter, and circuit 106 uses it.",
+        ),
+        (
+            "open 9 1 3 0",
+            "open 9 refused 13",
+            "Both transmitters at node 1 are in use, by circuits 103 and 104.",
+        ),
+        (
+            "open 9 5 2 0",
+            "open 9 refused 14",
+            "The far end is busy: node 2 has one receiver, and circuit 104 uses it.",
+        ),
+        ("close 9", "close refused 15", "No running circuit has the number 9."),
+        ("link 7 0 0", "link refused 10", "There is no link 7 on this ring."),
+        ("link 1 3 0", "link refused 16", "There is no wavelength 3 on this ring."),
+        ("link 1 0 2", "link refused 17", "There is no direction 2."),
+        ("read -", "read refused 30", "The saved form is cut short."),
+        ("read 00", "read refused 1", "a ring that has not 3 to 64 nodes."),
+    ] {
+        let (point, next) = refused(request, answer);
+        assert!(point.contains(expected), "{request}: {point}");
+        assert!(next.ends_with('.'), "{request}: {next}");
+    }
+}
+
+#[test]
+fn a_busy_far_end_is_never_a_full_ring() {
+    let (point, next) = refused("open 9 5 2 0", "open 9 refused 14");
+    assert_eq!(
+        point,
+        "The far end is busy: node 2 has one receiver, and circuit 104 uses it. This is not a full \
+         ring: a ring is never full while both ends have a free port."
+    );
+    assert_eq!(next, "Offer another destination, or wait until a circuit to there is closed.");
+}
+
+#[test]
+fn a_node_without_ports() {
+    let ring = || Some(table(&[1, 1, 0], &[]));
+    let told = |request, answer| tell(&step(request, answer, ring(), ring())).point;
+    let from = told("open 9 3 1 0", "open 9 refused 13");
+    assert!(from.starts_with("Node 3 has no transmitter at all. This is not a full ring:"));
+    let to = told("open 9 1 3 0", "open 9 refused 14");
+    assert!(to.starts_with("Node 3 has no receiver at all. This is not a full ring:"));
+}
+
+#[test]
+fn refused_lines() {
+    let told = |before: Option<_>| -> Telling {
+        let step: Step = step("opne 1 2 3 0", "line refused", before.clone(), before);
+        tell(&step)
+    };
+    assert!(told(None).reasons[0].starts_with("No ring is lit yet"));
+    assert!(told(Some(table(&[1, 1, 1], &[]))).reasons[0].contains("misspelt"));
+}
+
+#[test]
+fn questions_change_nothing() {
+    for (answer, expected) in [
+        ("link circuit 101", "Circuit 101 runs there. Nothing changed."),
+        ("link none", "No circuit runs there. Nothing changed."),
+        ("load 0 0 0 0 0 0", "The loads of all links were asked for. Nothing changed."),
+        ("write 29 0301", "The ring was saved. Nothing changed."),
+        ("anything", "A question was answered. Nothing changed."),
+    ] {
+        assert_eq!(on_filling("..", answer, &[], &[]).point, expected);
+    }
+}
