@@ -2,9 +2,10 @@
  * The one-link question of the ring controller, for monitors written in C or C++: which circuit runs over a link, on a
  * wavelength, in a direction.
  *
- * The function is proved to give what document 01, "Load and link", says, for every sequence of bytes and every three
- * numbers. `rt staticlib monitor`, at the top of the repository, proves it and writes target/staticlib/libmonitor.a;
- * a monitor is compiled with -I include and linked with that archive and nothing else. examples/monitor has one.
+ * The function is proved to give what docs/RULES.md, "Load and link", says, for every sequence of bytes and every three
+ * numbers. `rt staticlib monitor`, at the top of the repository, proves it and writes target/staticlib/libmonitor.a, for
+ * x86-64 Linux; a monitor is compiled with -I include and linked with that archive and nothing else. examples/monitor has
+ * one.
  */
 #ifndef RING_MONITOR_H
 #define RING_MONITOR_H
@@ -16,6 +17,15 @@
 extern "C" {
 #endif
 
+/* The version of this interface: it changes when a form, an answer or a refusal number does. */
+#define RING_MONITOR_VERSION 1
+
+/* The most bytes that a saved form has. A longer sequence of bytes is refused like any other that is no form. */
+#define RING_FORM_MOST 1745
+
+/* The most stack that a call takes, in bytes, with room to spare; it allocates nothing else. */
+#define RING_LINK_STACK 65536
+
 /* The directions. */
 #define RING_CLOCKWISE UINT64_C(0)
 #define RING_COUNTERCLOCKWISE UINT64_C(1)
@@ -26,7 +36,11 @@ extern "C" {
  */
 #define RING_NONE UINT64_C(4294967296)
 
-/* The refusals, with document 01's numbers: those of the saved form first, then those of the question. */
+/* Whether an answer is a refusal, and which. */
+#define RING_IS_REFUSAL(answer) ((answer) > RING_NONE)
+#define RING_REFUSAL(answer) ((int) ((answer) - RING_NONE))
+
+/* The refusals and their numbers: those of the saved form first, then those of the question. */
 enum ring_refusal {
     RING_NODE_COUNT = 1,      /* the number of nodes is not 3 to 64 */
     RING_PORT_COUNT = 2,      /* a node has more than 64 ports */
@@ -46,7 +60,9 @@ enum ring_refusal {
  * direction, in that order.
  *
  * `form` points to `length` bytes, which no other thread writes during the call; it may be NULL where `length` is 0.
- * The bytes are read and not kept. The call allocates nothing, keeps no state and may be made from several threads.
+ * The bytes are read and not kept. The call allocates nothing, keeps no state and may be made from several threads. It
+ * reads the whole form and tests every ring rule each time: some 12 to 20 microseconds for the longest form
+ * (docs/PERFORMANCE.md).
  */
 uint64_t ring_link(const uint8_t *form, size_t length, uint64_t link, uint64_t wavelength, uint64_t direction);
 

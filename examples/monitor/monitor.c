@@ -7,8 +7,8 @@
 
 #include "ring_monitor.h"
 
-/* More bytes than a form can have before it is refused, so that what is left unread of a longer file changes no answer. */
-enum { FORM_MOST = 4096 };
+/* One byte more than a form can have: what is left unread of a longer file changes no answer. */
+enum { FORM_ROOM = RING_FORM_MOST + 1 };
 
 static void print_circuit(const char *way, uint64_t answer)
 {
@@ -21,7 +21,7 @@ static void print_circuit(const char *way, uint64_t answer)
 
 int main(int argc, char **argv)
 {
-    static uint8_t form[FORM_MOST];
+    static uint8_t form[FORM_ROOM];
     uint64_t answer = RING_NONE;
     uint64_t link;
     uint64_t wavelength;
@@ -48,7 +48,7 @@ int main(int argc, char **argv)
     for (link = 1;; link++) {
         for (wavelength = 0;; wavelength++) {
             answer = ring_link(form, length, link, wavelength, RING_CLOCKWISE);
-            if (answer > RING_NONE) {
+            if (RING_IS_REFUSAL(answer)) {
                 break;
             }
             printf("link %" PRIu64 " wavelength %" PRIu64, link, wavelength);
@@ -61,7 +61,7 @@ int main(int argc, char **argv)
         }
     }
     if (answer != RING_NONE + RING_NO_LINK) {
-        printf("form refused %" PRIu64 "\n", answer - RING_NONE);
+        printf("form refused %d\n", RING_REFUSAL(answer));
         return 1;
     }
     return 0;
