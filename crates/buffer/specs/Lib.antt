@@ -1,2 +1,3 @@
--- Bytes written into a lent buffer.
+-- Bytes written into a lent buffer; and text of a free layout.
 pub mod Put
+pub mod Appended

@@ -8,23 +8,17 @@ use Rattle.basis.specs.Choice.{bit}
 use Rattle.basis.specs.Count.{countBelow}
 use Rattle.basis.specs.Search.{firstBelow}
 use Rattle.basis.proofs.Below.{count-same, first-same}
+use Rattle.limits.specs.Limits.{placeCount}
 use Rattle.slots.specs.Slot.{isLit, isUnlit}
-use Rattle.slots.specs.declared.Slot.{Slot}
-use Rattle.slots.specs.declared.Slot.the-variants.{Unlit as unlit, Alone as alone, Shared as shared}
+use Rattle.slots.proofs.Contents.{unlit-not}
 use Rattle.lit_words.specs.Lit.{litBit, onesOf}
 use Rattle.lit_words.proofs.LitBits.{words-say}
 use Rattle.channels.specs.Channels.{Channels, at, litPlaces, litAt, litOf}
 
--- a place is unlit when it is not lit
-pub unlit-not : (s : Slot) → not (isLit s) ≡ isUnlit s
-unlit-not unlit = refl
-unlit-not (alone a) = refl
-unlit-not (shared a b) = refl
-
 -- the first place that is unlit by the words is the table's
-pub unlit-words : (t : Channels) → firstBelow 128 (λ p. not (litBit (litOf t) p)) ≡ firstBelow 128 (λ p. isUnlit (at t p))
+pub unlit-words : (t : Channels) → firstBelow placeCount (λ p. not (litBit (litOf t) p)) ≡ firstBelow placeCount (λ p. isUnlit (at t p))
 unlit-words t =
-    first-same 128 (λ p. not (litBit (litOf t) p)) (λ p. isUnlit (at t p)) (λ p h. ap not (words-say (litAt t) p h) ∙ unlit-not (at t p))
+    first-same placeCount (λ p. not (litBit (litOf t) p)) (λ p. isUnlit (at t p)) (λ p h. ap not (words-say (litAt t) p h) ∙ unlit-not (at t p))
 
 -- the lit places, counted by place
 lit-all : (t : Channels) → countBelow (length t) (litAt t) ≡ litPlaces t
@@ -32,6 +26,6 @@ lit-all [] = refl
 lit-all (ch ∷ t) = ap (λ (n : ℕ). bit (isLit (ch .slot)) + n) (lit-all t)
 
 -- the words count the lit places of the table
-pub lit-places : (t : Channels) → length t ≡ 128 → onesOf (litOf t) ≡ litPlaces t
+pub lit-places : (t : Channels) → length t ≡ placeCount → onesOf (litOf t) ≡ litPlaces t
 unfolding onesOf
-lit-places t e = count-same 128 (litBit (litOf t)) (litAt t) (words-say (litAt t)) ∙ ap (λ (n : ℕ). countBelow n (litAt t)) (sym e) ∙ lit-all t
+lit-places t e = count-same placeCount (litBit (litOf t)) (litAt t) (words-say (litAt t)) ∙ ap (λ (n : ℕ). countBelow n (litAt t)) (sym e) ∙ lit-all t

@@ -9,9 +9,10 @@ use lib.Seq.{length-take-le, getD-take}
 use Rattle.basis.specs.Count.{All}
 use Rattle.basis.proofs.Bools.{all-join, all-map}
 use Rattle.basis.proofs.Pairs.{Ordered}
-use Rattle.slots.specs.Slot.{isAlone, firstOf}
+use Rattle.slots.specs.Slot.{isAlone}
 use Rattle.slots.specs.declared.Slot.{Slot}
 use Rattle.slots.specs.declared.Slot.the-variants.{Unlit as unlit, Alone as alone, Shared as shared}
+use Rattle.slots.proofs.Contents.{alone-first}
 use Rattle.channels.specs.Channels.{Channels, at, slots}
 use Rattle.channels.specs.Nonsharing.{Standing, aloneFrom, nonsharing, standingAt}
 use Rattle.channels.proofs.Places.{slots-length, slots-at}
@@ -60,13 +61,7 @@ alone-most p (unlit ∷ u) = omega (arith, alone-most (suc p) u)
 alone-most p (alone a ∷ u) = omega (arith, alone-most (suc p) u)
 alone-most p (shared a b ∷ u) = omega (arith, alone-most (suc p) u)
 
--- a place with a circuit alone holds its first circuit
-alone-first : (s : Slot) → isAlone s ≡ true → s ≡ alone (firstOf s)
-alone-first unlit e = cc
-alone-first (alone a) e = refl
-alone-first (shared a b) e = cc
-
--- so that stands there
+-- the first circuit of a place with one alone stands there
 pub stands-alone : (m : ℕ) (t : Channels) (p : ℕ) → p < m → isAlone (at t p) ≡ true → Stands m t (standingAt t p)
 stands-alone m t p l h = record { low = l; there = alone-first (at t p) h }
 

@@ -1,7 +1,6 @@
 -- The table place by place: its weight is the sum of its places' weights, and a change of one place changes only that. Assumes nothing.
 use Prim.Native.Nat.{ℕ, zero, suc, _+_, _-_, _*_, _≤_, _<_, zero-le, suc-le-suc}
-use mathlib.Core.Path.{_≡_, refl, ap}
-use mathlib.Core.Bool.{true}
+use mathlib.Core.Path.{_≡_, refl, sym, ap}
 use mathlib.Core.Logic.{_≢_}
 use mathlib.Core.List.{List, [], _∷_}
 use native.Mathlib.Nat.{le-of-suc-le-suc, not-suc-le-zero}
@@ -11,9 +10,10 @@ use lib.Seq.{drop-cons, getD-set-same, getD-set-other}
 use Rattle.basis.specs.Count.{weigh}
 use Rattle.basis.proofs.Weigh.{weigh-append, weigh-set}
 use Rattle.lightpath.specs.declared.Circuit.{Circuit}
-use Rattle.slots.specs.Slot.{held, isUnlit}
+use Rattle.slots.specs.Slot.{held}
 use Rattle.slots.specs.declared.Slot.{Slot}
-use Rattle.slots.specs.declared.Slot.the-variants.{Unlit as unlit, Alone as alone, Shared as shared}
+use Rattle.slots.specs.declared.Slot.the-variants.{Unlit as unlit}
+use Rattle.slots.proofs.Contents.{held-most}
 use Rattle.channels.specs.Channels.{Channels, unlitChannel, at, slots, allHeld, circuits}
 use Rattle.channels.specs.Change.{Change, put}
 
@@ -35,14 +35,8 @@ slots-set (ch ∷ t) zero s = refl
 slots-set (ch ∷ t) (suc p) s = rw (slots-set t p s)
 
 -- a place that there is not is unlit
-pub none-there : (t : Channels) (p : ℕ) → length t ≤ p → at t p ≡ unlit
-none-there t p l = ap (λ ch. ch .slot) (List·getD-eq-default t unlitChannel l)
-
--- a content that the test calls unlit is
-pub is-unlit : (s : Slot) → isUnlit s ≡ true → s ≡ unlit
-is-unlit unlit e = refl
-is-unlit (alone a) e = cc
-is-unlit (shared a b) e = cc
+pub none-there : (t : Channels) (n p : ℕ) → length t ≡ n → n ≤ p → unlit ≡ at t p
+none-there t n p e l = sym (ap (λ ch. ch .slot) (List·getD-eq-default t unlitChannel (omega arith)))
 
 -- a weight of circuits is one of contents
 pub weigh-slots : (w : Circuit → ℕ) (u : List Slot) → weigh w (allHeld u) ≡ weigh (λ s. weigh w (held s)) u
@@ -73,12 +67,10 @@ weigh-none : (w : Circuit → ℕ) (u : List Slot) → ((p : ℕ) → p < length
 weigh-none w [] h = refl
 weigh-none w (s ∷ u) h = omega (arith, weigh-append w (held s) (allHeld u), h 0 (omega arith), weigh-none w u (λ p l. h (suc p) (suc-le-suc l)))
 
--- a place holds at most two circuits
+-- each content has at most two circuits
 weigh-two-each : (w : Circuit → ℕ) → ((c : Circuit) → w c ≤ 1) → (u : List Slot) → weigh w (allHeld u) ≤ 2 * length u
 weigh-two-each w h [] = zero-le
-weigh-two-each w h (unlit ∷ u) = omega (arith, weigh-two-each w h u)
-weigh-two-each w h (alone a ∷ u) = omega (arith, h a, weigh-two-each w h u)
-weigh-two-each w h (shared a b ∷ u) = omega (arith, h a, h b, weigh-two-each w h u)
+weigh-two-each w h (s ∷ u) = omega (arith, weigh-append w (held s) (allHeld u), held-most w h s, weigh-two-each w h u)
 
 module _ (t : Channels) (w : Circuit → ℕ) where
   -- one place weighs no more than the table

@@ -5,16 +5,18 @@ use mathlib.Core.Logic.{_≢_}
 use mathlib.Core.List.{List, [], _∷_}
 use native.Mathlib.Decide.{ℕ-discrete}
 use native.Mathlib.Omega.{arith}
-use lib.ListN.{length}
+use lib.ListN.{length, set}
 use lib.Seq.{set-set}
 use Rattle.basis.specs.Count.{weigh, All}
 use Rattle.basis.proofs.Bools.{all-map}
 use Rattle.lightpath.specs.declared.Circuit.{Circuit}
-use Rattle.slots.specs.Slot.{held}
+use Rattle.slots.specs.Slot.{held, without}
 use Rattle.slots.specs.declared.Slot.{Slot}
 use Rattle.slots.specs.declared.Slot.the-variants.{Unlit as unlit}
-use Rattle.channels.specs.Channels.{Channels, at, slots, circuits}
-use Rattle.channels.specs.Change.{Change, _gets_, put, puts, oneChange, twoChanges, inOrder}
+use Rattle.channels.specs.Channels.{Channels, at, slots, circuits, whereIs}
+use Rattle.channels.specs.Change.{Change, _gets_, put, puts}
+use Rattle.channels.specs.Changes.{oneChange, twoChanges, inOrder}
+use Rattle.channels.specs.Closing.{closed}
 use Rattle.channels.proofs.Places.{weigh-slots, weigh-place, weigh-nowhere, put-length, put-here, put-there, put-sum}
 
 -- no place is changed twice
@@ -164,3 +166,7 @@ puts-one a t = again a (put a t) ∙ again a t
 
 pub puts-two : (a b : Change) (t : Channels) → puts (inOrder (twoChanges a b)) t ≡ puts (a ∷ b ∷ []) t
 puts-two a b t = again b (put a t)
+
+-- a store of what is left at the place of a number is a closing
+pub closed-is : (t : Channels) (n p : ℕ) (s : Slot) → p ≡ whereIs t n → s ≡ without n (at t p) → set t p (record { slot = s }) ≡ closed t n
+closed-is t n p s e h = rw (h, e)

@@ -105,10 +105,10 @@ below-circuits t p e = rw e (all t)
     all (ch ∷ t) = below-front (λ p. held (at (ch ∷ t) p)) (length t) ∙ ap (λ (cs : List Circuit). held (ch .slot) ++ cs) (all t)
 
 -- the nonsharing circuits of a list of contents, the first content apart
-alone-first : (k : ℕ) (s : Slot) (u : List Slot) → aloneFrom k (s ∷ u) ≡ aloneAs k s ++ aloneFrom (suc k) u
-alone-first k unlit u = refl
-alone-first k (alone a) u = refl
-alone-first k (shared a b) u = refl
+alone-apart : (k : ℕ) (s : Slot) (u : List Slot) → aloneFrom k (s ∷ u) ≡ aloneAs k s ++ aloneFrom (suc k) u
+alone-apart k unlit u = refl
+alone-apart k (alone a) u = refl
+alone-apart k (shared a b) u = refl
 
 -- so they are what the places give, which count from k
 alone-from : (m k : ℕ) (t : Channels) → m ≤ length t → below (λ p. aloneAs (k + p) (at t p)) m ≡ aloneFrom k (take m (slots t))
@@ -117,7 +117,7 @@ alone-from (suc m) k [] h = absurd (not-suc-le-zero h)
 alone-from (suc m) k (ch ∷ t) h =
     below-front (λ p. aloneAs (k + p) (at (ch ∷ t) p)) m
     ∙ rw add-zero (ap (λ (l : List Standing). aloneAs k (ch .slot) ++ l) (simp add-suc (simp suc-add at (alone-from m (suc k) t (le-of-suc-le-suc h)))))
-    ∙ sym (alone-first k (ch .slot) (take m (slots t)))
+    ∙ sym (alone-apart k (ch .slot) (take m (slots t)))
 
 -- the places below m give the nonsharing circuits there
 below-nonsharing : (t : Channels) (p m : ℕ) → p ≡ m → m ≤ length t → below (λ p. aloneAs p (at t p)) p ≡ nonsharing m t

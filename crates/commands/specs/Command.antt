@@ -1,6 +1,6 @@
 -- What a line asks for beyond the script's three kinds; any other is for the order desk, which runs it or refuses it. Assumes nothing.
 -- What `parse_command` promises.
-use Prim.Native.Nat.{ℕ, suc, _-_, _^_}
+use Prim.Native.Nat.{ℕ, suc, _-_, _*_, _^_}
 use mathlib.Core.List.{List, [], _∷_}
 use lib.Dec.{eqb, leb}
 use lib.ListN.{length, getD}
@@ -13,9 +13,13 @@ use Rattle.words.specs.Split.{words, sameText}
 use Rattle.commands.specs.declared.Command.{Command}
 use Rattle.commands.specs.declared.Command.the-variants.{Read, ReadFile, Write, WriteFile, Load, Link, Circuits, Show, Desk}
 
--- a line of at most 8,192 bytes
+-- of a form at most 4,096 bytes are read, from the digits of a word or from a file
+abbrev pub mostRead : ℕ
+mostRead = 4096
+
+-- a line of at most 8,192 bytes: two digits for each of these
 abbrev pub longestCommand : ℕ
-longestCommand = 8192
+longestCommand = 2 * mostRead
 
 -- where the last word of the line l begins, if the words left are one that has a byte; else 0
 abbrev pub lastAt : List ℕ → List (List ℕ) → ℕ

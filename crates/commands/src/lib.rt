@@ -7,6 +7,12 @@ ghost use Rattle.words.specs.Split.{otherWords};
 ghost use Rattle.commands.specs.Command.{lastAt, byFirst, readCommand, writeCommand, atEnd, linkCommand, commandOf};
 use words::Field;
 
+// The most bytes of a form that are read, from the digits of a word or from a file. A longer file is read to that.
+pub const MOST_READ: usize = 4096;
+
+// The most bytes of a line: it has room for the digits of as many, but for its first word.
+pub const LONGEST_COMMAND: usize = 2 * MOST_READ;
+
 // What a line asks for: one of these, or what the order desk makes of it. A form or a path begins at a position of the line.
 pub enum Command {
     Read(usize),
@@ -120,7 +126,7 @@ fn parse_link(line: &[u8], at: usize) -> Command
 pub fn parse_command(line: &[u8]) -> Command
     ensures { λ r. ⌜ r ≡ commandOf (now (line .entry)) ⌝ }
 {
-    if 8192 < line.len() {
+    if LONGEST_COMMAND < line.len() {
         return Command::Desk;
     }
     let end = words::word_end(line, 0);

@@ -1,8 +1,4 @@
--- The laws of reading by position: numbers, circuits, records, the map, the ring, and the stages of the whole.
-pub mod Numbering
-pub mod Circuits
-pub mod Records
+-- The laws of reading by position: the records of all places, the ring, and the stages of the whole.
 pub mod Listing
-pub mod MapWords
 pub mod Rings
 pub mod Stages

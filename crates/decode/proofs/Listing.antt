@@ -7,16 +7,18 @@ use native.Mathlib.Numerals.{add-one}
 use native.Mathlib.Omega.{arith}
 use lib.ListN.{length, take, drop, set, length-set}
 use lib.Seq.{take-suc-set, take-all}
+use Rattle.limits.specs.Limits.{placeCount}
 use Rattle.slots.specs.declared.Slot.{Slot}
 use Rattle.channels.specs.declared.Channel.{Channel}
 use Rattle.channels.specs.Channels.{Channels}
 use Rattle.refusals.specs.declared.Refusal.{Refusal}
 use Rattle.form.specs.Reader.{Field, got, fault, Reader, andThen}
 use Rattle.form.specs.Reading.{readPlace, readRecords}
-use Rattle.decode.specs.declared.places.SlotRead.{SlotRead}
-use Rattle.decode.specs.declared.places.SlotRead.the-variants.{Got, Refused}
+use Rattle.decode_record.specs.declared.SlotRead.{SlotRead}
+use Rattle.decode_record.specs.declared.SlotRead.the-variants.{Got, Refused}
 use Rattle.decode.specs.declared.places.RecordsRead.{RecordsRead}
-use Rattle.decode.specs.Found.{SlotAt, noRecords, RecordsAt}
+use Rattle.decode_record.specs.Found.{SlotAt}
+use Rattle.decode.specs.Found.{noRecords, RecordsAt}
 
 -- the bit of a place, by another test
 pub place-same : (b s : List ℕ) (l m : Bool) (r : SlotRead) → l ≡ m → SlotAt b r (readPlace l s) → SlotAt b r (readPlace m s)
@@ -38,22 +40,22 @@ after-none (fault n) = refl
 
 -- p places are read, into the first p channels of chs; the next record is at i
 pub record Listing (lit : ℕ → Bool) (b : List ℕ) (start p : ℕ) (chs : Channels) (i : ℕ) : Type 0 where
-  pub is : readRecords lit 128 0 (drop start b) ≡ after (take p chs) (readRecords lit (128 - p) p (drop i b))
+  pub is : readRecords lit placeCount 0 (drop start b) ≡ after (take p chs) (readRecords lit (placeCount - p) p (drop i b))
   pub within : i ≤ length b
-  pub long : length chs ≡ 128
+  pub long : length chs ≡ placeCount
 
 module _ (lit : ℕ → Bool) (b : List ℕ) (start : ℕ) where
-  pub listing-none : (chs : Channels) → start ≤ length b → length chs ≡ 128 → Listing lit b start 0 chs start
-  listing-none chs h l = record { is = after-none (readRecords lit 128 0 (drop start b)); within = h; long = l }
+  pub listing-none : (chs : Channels) → start ≤ length b → length chs ≡ placeCount → Listing lit b start 0 chs start
+  listing-none chs h l = record { is = after-none (readRecords lit placeCount 0 (drop start b)); within = h; long = l }
 
   module _ (p : ℕ) (chs : Channels) (i : ℕ) (q : Listing lit b start p chs i) where
-    module _ (h : p < 128) (r : SlotRead) (a : SlotAt b r (readPlace (lit p) (drop i b))) where
-      rest : (f : Field Slot) → readPlace (lit p) (drop i b) ≡ f → readRecords lit 128 0 (drop start b)
-          ≡ after (take p chs) (andThen f (λ slot s. andThen (readRecords lit (128 - (p + 1)) (suc p) s) (λ chs s. got (record { slot = slot } ∷ chs) s)))
+    module _ (h : p < placeCount) (r : SlotRead) (a : SlotAt b r (readPlace (lit p) (drop i b))) where
+      rest : (f : Field Slot) → readPlace (lit p) (drop i b) ≡ f → readRecords lit placeCount 0 (drop start b)
+          ≡ after (take p chs) (andThen f (λ slot s. andThen (readRecords lit (placeCount - (p + 1)) (suc p) s) (λ chs s. got (record { slot = slot } ∷ chs) s)))
       unfolding readRecords
-      rest f g = let k : 128 - p ≡ suc (128 - (p + 1)) = omega arith in q .is ∙ rw (k, g)
+      rest f g = let k : placeCount - p ≡ suc (placeCount - (p + 1)) = omega arith in q .is ∙ rw (k, g)
 
-      pub listing-fault : (n : Refusal) → r ≡ Refused n → readRecords lit 128 0 (drop start b) ≡ fault n
+      pub listing-fault : (n : Refusal) → r ≡ Refused n → readRecords lit placeCount 0 (drop start b) ≡ fault n
       unfolding after
       listing-fault n g = rest (fault n) (rw g at a)
 
@@ -62,14 +64,14 @@ module _ (lit : ℕ → Bool) (b : List ℕ) (start : ℕ) where
           let k = rw g at a in
           let t : take (suc p) (set chs p c) ≡ take p chs ++ (c ∷ []) = take-suc-set chs p c (omega (arith, q .long)) in
           record {
-            is = rest (got (c .slot) (drop n b)) (k .1) ∙ after-one (take p chs) c (readRecords lit (128 - (p + 1)) (suc p) (drop n b)) ∙ rw (add-one, ← t);
+            is = rest (got (c .slot) (drop n b)) (k .1) ∙ after-one (take p chs) c (readRecords lit (placeCount - (p + 1)) (suc p) (drop n b)) ∙ rw (add-one, ← t);
             within = k .0;
             long = length-set chs p c ∙ q .long;
           }
 
-    pub listing-all : 128 ≤ p → p ≤ 128 → readRecords lit 128 0 (drop start b) ≡ got chs (drop i b)
+    pub listing-all : placeCount ≤ p → p ≤ placeCount → readRecords lit placeCount 0 (drop start b) ≡ got chs (drop i b)
     unfolding after readRecords
-    listing-all h l = let e : p ≡ 128 = omega arith in q .is ∙ rw (e, take-all 128 chs (omega (arith, q .long)), append-nil)
+    listing-all h l = let e : p ≡ placeCount = omega arith in q .is ∙ rw (e, take-all placeCount chs (omega (arith, q .long)), append-nil chs)
 
 -- a refusal is all that is read
 pub records-refused : (b : List ℕ) (f : Field Channels) (n : Refusal) (r : RecordsRead) → r ≡ noRecords n → f ≡ fault n → RecordsAt b r f

@@ -11,6 +11,7 @@ use mir.Syntax.{w8}
 use mir.Val.{Fits}
 use borrow.Author.Tests.{le-leb, lt-leb, not-true, not-false}
 use Rattle.basis.proofs.Search.{at-all}
+use Rattle.limits.specs.Limits.{placeCount}
 use Rattle.lit_words.specs.declared.Lit.{Lit}
 use Rattle.lit_words.specs.Lit.{litBit, noneLitFrom, wordsOf}
 use Rattle.lit_words.proofs.LitBits.{words-say}
@@ -91,7 +92,7 @@ module _ (b : List ℕ) (t : RingTable) (q : Ported b t) where
     there : leb 16 (length (drop (1 + t .nodes) b)) ≡ true
     there = le-leb 16 (length (drop (1 + t .nodes) b)) (simp length-drop h)
 
-    says : (p : ℕ) → p < 128 → litBit lit p ≡ mapBit (take 16 (drop (1 + t .nodes) b)) p
+    says : (p : ℕ) → p < placeCount → litBit lit p ≡ mapBit (take 16 (drop (1 + t .nodes) b)) p
     says p l = rw w (words-say (mapBit (take 16 (drop (1 + t .nodes) b))) p l)
 
     module _ (v : Bool) (m : ℕ) (e : v ≡ noneLitFrom m (litBit lit)) (g : m ≡ limitOf (t .ports)) where
@@ -108,7 +109,7 @@ module _ (b : List ℕ) (t : RingTable) (q : Ported b t) where
           let n : 1 + t .nodes + mapWidth ≡ 1 + mapWidth + t .nodes = omega arith in
           record {
             ports = q .ports;
-            read = rw (q .read, there, judged, not-false v k, drop-drop 16 (1 + t .nodes) b, n) (rw (records-same (mapBit (take 16 (drop (1 + t .nodes) b))) (litBit lit) 128 0 (drop (1 + mapWidth + t .nodes) b) (λ j l. sym (says j (omega arith)))));
+            read = rw (q .read, there, judged, not-false v k, drop-drop 16 (1 + t .nodes) b, n) (rw (records-same (mapBit (take 16 (drop (1 + t .nodes) b))) (litBit lit) placeCount 0 (drop (1 + mapWidth + t .nodes) b) (λ j l. sym (says j (omega arith)))));
             within = omega (arith, q .within);
             table = q .table;
           }
@@ -135,7 +136,7 @@ judged-bad t v r e h g = rw (← e, not-true v h) g
 pub ruleset judgedRules = (judged-good, judged-bad)
 
 -- the records: refused, followed by other bytes, or the last of the form
-module _ (b : List ℕ) (t : RingTable) (lit : Lit) (q : Mapped b t lit) (x : RecordsRead) (h : RecordsAt b x (readRecords (litBit lit) 128 0 (drop (1 + mapWidth + t .nodes) b))) where
+module _ (b : List ℕ) (t : RingTable) (lit : Lit) (q : Mapped b t lit) (x : RecordsRead) (h : RecordsAt b x (readRecords (litBit lit) placeCount 0 (drop (1 + mapWidth + t .nodes) b))) where
   pub records-fault : (n : Refusal) → x .verdict ≡ refused n → readTable b ≡ fault n
   records-fault n e = q .read ∙ rw ((rw e at h) .0)
 

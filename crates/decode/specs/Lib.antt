@@ -1,3 +1,3 @@
--- What the reader has: at a position, then of a form as far as it is read.
+-- What the reader has: of the records of all places, then of a form as far as it is read.
 pub mod Found
 pub mod Begun

@@ -1,8 +1,5 @@
 // Reads the saved form of a ring table, from left to right.
 
-mod circuit;
-mod map;
-mod number;
 mod places;
 
 ghost use mathlib.Core.Path.{_≡_};
@@ -105,7 +102,7 @@ fn read_places(form: &[u8], ring: RingTable) -> Answered
     if form.len() - start < MAP_WIDTH {
         return refused(Refusal::CutShort);
     }
-    let lit = map::read_map(form, start);
+    let lit = byte_numbers::read_map(form, start);
     let ports = ring.ports;
     if !lit.none_lit_from(ports::place_limit(ports)) {
         return refused(Refusal::BadField);

@@ -17,7 +17,7 @@ use Rattle.ring.specs.declared.Opening.{Opening}
 use Rattle.ring.specs.declared.Opening.the-variants.{Taken as taken, Refused as notOpened}
 use Rattle.ring.proofs.Demand.{demand3, answered}
 use Rattle.print.specs.Answers.{refusedLine, openLine}
-use Rattle.desk.specs.Desk.{Desk, runOpen, Runs}
+use Rattle.desk.specs.Desk.{Desk, runOpen, CanRun}
 use Rattle.desk.specs.Demand3.{Refuses, Serves, Opens}
 
 -- an opening that answers by a refusal prints its number
@@ -58,7 +58,7 @@ module _ (d : Desk) (c : Circuit) (ready : d .ready ≡ true) (rules : meetsRule
       record { desk = rw (ready, q .table); text = rw (ready, q .none, append-nil) (refusal-line (c .number) _ (decision .opened .answer) (q .answer)) }
 
 -- each line that asks for an opening
-pub opens : (d : Desk) (line l : List ℕ) (at : ℕ) → Runs d l at → Opens d line
+pub opens : (d : Desk) (line l : List ℕ) (at : ℕ) → CanRun d l at → Opens d line
 opens d line l at s =
     record {
       serves = λ c e ready g. rw e (serves d c ready (s .rules ready) g);

@@ -85,12 +85,12 @@ abbrev pub answerRoom : ℕ
 answerRoom = openingRoom
 
 -- what running a line asks for: a desk whose table meets the ring rules, and room for the answer
-pub record Runs (d : Desk) (l : List ℕ) (at : ℕ) : Type 0 where
+pub record CanRun (d : Desk) (l : List ℕ) (at : ℕ) : Type 0 where
   pub rules : KeepsRules d
   pub room : at + answerRoom ≤ length l
 
 -- a line was run: the desk is as defined, the text stands in the lent bytes, and the table meets the ring rules again
-pub record Ended (o : Outcome) (l : List ℕ) (at : ℕ) (l′ : List ℕ) (r : Ran) : Type 0 where
+pub record HasRun (o : Outcome) (l : List ℕ) (at : ℕ) (l′ : List ℕ) (r : Ran) : Type 0 where
   pub desk : r .desk ≡ o .desk
   pub text : Printed answerRoom l at (o .text) l′ (r .next)
   pub rules : KeepsRules (r .desk)

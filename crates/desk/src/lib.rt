@@ -1,5 +1,5 @@
 // The order desk: one line of a script, run and answered as bytes.
-ghost use Rattle.desk.specs.Desk.{Runs, Ended, runRing, runOpen, runClose, runLine, refuse as Desk·refuse};
+ghost use Rattle.desk.specs.Desk.{CanRun, HasRun, runRing, runOpen, runClose, runLine, refuse as Desk·refuse};
 ghost use Rattle.desk.specs.Demand3.{Opens};
 use lightpath::Circuit;
 use limits::LEAST_RECORDS;
@@ -25,8 +25,8 @@ pub struct Ran {
 
 // Prints `line refused`, and nothing changes.
 fn refuse(desk: Desk, out: &mut [u8], at: usize) -> Ran
-    requires { ⌜ Runs desk (now out) at ⌝ }
-    ensures { λ r. ⌜ Ended (Desk·refuse desk) (now (out .entry)) at (now (out .exit)) r ⌝ }
+    requires { ⌜ CanRun desk (now out) at ⌝ }
+    ensures { λ r. ⌜ HasRun (Desk·refuse desk) (now (out .entry)) at (now (out .exit)) r ⌝ }
 {
     let next = print::put_line_refused(out, at);
     Ran { desk, next }
@@ -34,8 +34,8 @@ fn refuse(desk: Desk, out: &mut [u8], at: usize) -> Ran
 
 // A ring of so many nodes with some ports; a refused one keeps the old table.
 fn run_ring(desk: Desk, nodes: u8, ports: &[u8], out: &mut [u8], at: usize) -> Ran
-    requires { ⌜ Runs desk (now out) at ⌝ }
-    ensures { λ r. ⌜ Ended (runRing desk nodes (now (ports .entry))) (now (out .entry)) at (now (out .exit)) r ⌝ }
+    requires { ⌜ CanRun desk (now out) at ⌝ }
+    ensures { λ r. ⌜ HasRun (runRing desk nodes (now (ports .entry))) (now (out .entry)) at (now (out .exit)) r ⌝ }
 {
     let made = RingTable::make(nodes, ports);
     let table = made.table;
@@ -52,8 +52,8 @@ fn run_ring(desk: Desk, nodes: u8, ports: &[u8], out: &mut [u8], at: usize) -> R
 
 // An opening, with three records lent.
 fn run_open(desk: Desk, circuit: Circuit, out: &mut [u8], at: usize) -> Ran
-    requires { ⌜ Runs desk (now out) at ⌝ }
-    ensures { λ r. ⌜ Ended (runOpen desk circuit) (now (out .entry)) at (now (out .exit)) r ⌝ }
+    requires { ⌜ CanRun desk (now out) at ⌝ }
+    ensures { λ r. ⌜ HasRun (runOpen desk circuit) (now (out .entry)) at (now (out .exit)) r ⌝ }
 {
     if !desk.ready {
         return refuse(desk, out, at);
@@ -71,8 +71,8 @@ fn run_open(desk: Desk, circuit: Circuit, out: &mut [u8], at: usize) -> Ran
 
 // A closing.
 fn run_close(desk: Desk, number: u32, out: &mut [u8], at: usize) -> Ran
-    requires { ⌜ Runs desk (now out) at ⌝ }
-    ensures { λ r. ⌜ Ended (runClose desk number) (now (out .entry)) at (now (out .exit)) r ⌝ }
+    requires { ⌜ CanRun desk (now out) at ⌝ }
+    ensures { λ r. ⌜ HasRun (runClose desk number) (now (out .entry)) at (now (out .exit)) r ⌝ }
 {
     if !desk.ready {
         return refuse(desk, out, at);
@@ -89,8 +89,8 @@ fn run_close(desk: Desk, number: u32, out: &mut [u8], at: usize) -> Ran
 
 // Runs a line without its line end, and writes the answer at a position of the lent bytes.
 pub fn run_line(desk: Desk, line: &[u8], out: &mut [u8], at: usize) -> Ran
-    requires { ⌜ Runs desk (now out) at ⌝ }
-    ensures answer { λ r. ⌜ Ended (runLine desk (now (line .entry))) (now (out .entry)) at (now (out .exit)) r ⌝ }
+    requires { ⌜ CanRun desk (now out) at ⌝ }
+    ensures answer { λ r. ⌜ HasRun (runLine desk (now (line .entry))) (now (out .entry)) at (now (out .exit)) r ⌝ }
     ensures demand3 { λ r. ⌜ Opens desk (now (line .entry)) ⌝ }
 {
     let parsed = requests::parse_line(line);

@@ -14,7 +14,7 @@ use Rattle.refusals.specs.Answer.{Answer, refusal, done, answerBy}
 use Rattle.refusals.specs.declared.Refusal.the-variants.{ShortBuffer, BrokenRule}
 use Rattle.ring.specs.Table.{meetsRules}
 use Rattle.ring.specs.declared.RingTable.{RingTable}
-use Rattle.ring.proofs.TableRules.{table-limits}
+use Rattle.ring.proofs.TableRules.{few-nodes}
 use Rattle.buffer.specs.Put.{Room, Put}
 use Rattle.form.specs.Form.{formOf}
 use Rattle.encode.specs.declared.Written.the-variants.{Length, Refused}
@@ -39,10 +39,6 @@ module _ (t : RingTable) (l : List ℕ) (v : Bool) (e : v ≡ meetsRules t) (h :
 
 -- it meets them
 module _ (t : RingTable) (l : List ℕ) (m : meetsRules t ≡ true) where
-  -- the nodes are few enough for their ports
-  pub few-nodes : t .nodes ≤ 64
-  few-nodes = table-limits t m .most
-
   module _ (n : ℕ) (g : n ≡ length (formOf t)) where
     -- the buffer is shorter than the form
     module _ (k : length l < n) where

@@ -1,40 +1,21 @@
 -- Writing the form part by part: N, the ports, the map, the records. Assumes nothing.
-use Prim.Native.Nat.{ℕ, zero, suc, _+_, _*_, _/_, _%_}
-use mathlib.Core.Path.{_≡_, refl}
-use mathlib.Core.Bool.{Bool}
-use mathlib.Core.List.{List, [], _∷_, _++_}
-use native.Mathlib.Omega.{arith}
+use Prim.Native.Nat.{ℕ}
+use mathlib.Core.Path.{_≡_}
+use mathlib.Core.List.{List, [], _∷_}
 use Rattle.basis.proofs.Arrays.{lent-within, lent-counted}
 use Rattle.lit_words.specs.declared.Lit.{Lit}
-use Rattle.lit_words.specs.Lit.{word}
-use Rattle.lit_words.proofs.Bits.{word-lt, low-byte}
 use Rattle.channels.specs.Channels.{litAt, litOf}
 use Rattle.ring.specs.declared.RingTable.{RingTable}
 use Rattle.buffer.specs.Put.{Room, Put}
+use Rattle.buffer.proofs.Chain.{Putting, start, first, then, done}
 use Rattle.form.specs.Form.{mapBytes, mapWidth, recordsBytes, portsBytes, formOf}
-use Rattle.encode.specs.MapWords.{lowFirst, wordsBytes}
-use Rattle.encode.proofs.Chain.{Putting, start, first, then, done}
-
--- the map is the bytes of the words
-map-word : (f : ℕ → Bool) (k p : ℕ) → mapBytes f k p ≡ lowFirst k (word f (8 * k) p)
-unfolding mapBytes lowFirst
-map-word f zero p = refl
-map-word f (suc k) p =
-    let e : 8 * suc k ≡ 8 + 8 * k = omega arith in
-    let l = word-lt f 8 p in
-    let m : word f (8 + 8 * k) p % 256 ≡ word f 8 p = omega (arith, low-byte f (8 * k) p) in
-    let d : word f (8 + 8 * k) p / 256 ≡ word f (8 * k) (8 + p) = omega (arith, low-byte f (8 * k) p) in
-    rw (e, m, d, map-word f k (8 + p))
-
-map-halves : (f : ℕ → Bool) → mapBytes f mapWidth 0 ≡ mapBytes f 8 0 ++ mapBytes f 8 64
-unfolding mapBytes
-map-halves f = refl
+use Rattle.byte_numbers.specs.MapWords.{wordsBytes}
+use Rattle.byte_numbers.proofs.WordsWritten.{words-map}
 
 -- the parts of the form, one after the other
 module _ (t : RingTable) (lit : Lit) (e : lit ≡ litOf (t .channels)) (l : List ℕ) (h : Room l 0 (formOf t)) where
   words-are : wordsBytes lit ≡ mapBytes (litAt (t .channels)) mapWidth 0
-  unfolding wordsBytes
-  words-are = rw (map-halves (litAt (t .channels)), map-word (litAt (t .channels)) 8 0, map-word (litAt (t .channels)) 8 64, e)
+  words-are = rw e (words-map (litAt (t .channels)))
 
   form-begun : Putting l 0 (formOf t) l 0 (t .nodes ∷ []) (portsBytes t ∷ wordsBytes lit ∷ recordsBytes (t .channels) ∷ [])
   unfolding formOf

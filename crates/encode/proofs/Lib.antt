@@ -1,8 +1,5 @@
--- The laws of writing: one part after the other, the parts of a form, its length, the whole and the answers.
-pub mod Chain
-pub mod Circuits
+-- The laws of writing: the records one after the other, the length of a form, its parts, and the answers.
 pub mod Records
-pub mod MapWords
 pub mod Lengths
 pub mod FormParts
 pub mod Answers

@@ -1,4 +1,2 @@
--- The definitions of writing: numbers and their widths, the map by its words, then the answer and the lent bytes.
-pub mod Widths
-pub mod MapWords
+-- What writing answers, and what it leaves in the lent bytes.
 pub mod Answer

@@ -1,8 +1,5 @@
 // Writes the saved form of a ring table into lent bytes.
 
-mod circuit;
-mod length;
-mod map;
 mod places;
 
 ghost use mathlib.Core.Path.{_≡_};
@@ -17,6 +14,7 @@ ghost use Rattle.ring.specs.Table.{meetsRules};
 ghost use Rattle.buffer.specs.Put.{Room, Put};
 ghost use Rattle.form.specs.Form.{formOf};
 ghost use Rattle.encode.specs.Answer.{writtenOf, writtenAnswer, writeReasons, bytesAfter};
+use form::MAP_WIDTH;
 use lit_words::Lit;
 use refusals::Refusal;
 use ring::RingTable;
@@ -25,6 +23,15 @@ use ring::RingTable;
 pub enum Written {
     Length(usize),
     Refused(Refusal),
+}
+
+// The length of the form: the ones of the map count the records.
+fn form_length(table: RingTable, lit: Lit) -> usize
+    requires { ⌜ (table .nodes ≤ mostNodes) × (lit ≡ litOf (table .channels)) ⌝ }
+    ensures { λ r. ⌜ r ≡ length (formOf table) ⌝ }
+{
+    let channels = table.channels;
+    1 + MAP_WIDTH + table.nodes as usize + lit.count() as usize + places::circuits_length(channels)
 }
 
 // Writes the form at the start of the lent bytes.
@@ -37,7 +44,7 @@ fn put_form(out: &mut [u8], table: RingTable, lit: Lit) -> usize
     let channels = table.channels;
     let start = buffer::put_byte(out, 0, nodes);
     let map = buffer::put_text(out, start, &ports[..nodes as usize]);
-    let records = map::put_map(out, map, lit);
+    let records = byte_numbers::put_map(out, map, lit);
     places::put_records(out, records, channels)
 }
 
@@ -50,7 +57,7 @@ pub fn write_valid(table: RingTable, out: &mut [u8]) -> Written
 {
     let channels = table.channels;
     let lit = channels::lit_of(channels);
-    let length = length::form_length(table, lit);
+    let length = form_length(table, lit);
     if out.len() < length {
         return Written::Refused(Refusal::ShortBuffer);
     }

@@ -1,5 +1,6 @@
 -- What reading and writing a file answers. No contract can say what stands in a file. Assumes nothing.
-use Prim.Native.Nat.{ℕ, _≤_}
+-- What `read_file` and `write_file` promise.
+use Prim.Native.Nat.{ℕ, _-_, _≤_}
 use mathlib.Core.List.{List}
 use lib.ListN.{length}
 use Rattle.files.specs.declared.FileRead.{FileRead}
@@ -10,7 +11,19 @@ abbrev pub Within : FileRead → List ℕ → Type 0
 Within (Bytes n) l = n ≤ length l
 Within Failed l = Unit {0}
 
--- a path has a byte, and leaves room for the ending of the new file's name in the 4,095 bytes that the system takes
+-- the system takes a name of at most 4,095 bytes
+abbrev pub longestName : ℕ
+longestName = 4095
+
+-- the bytes of the ending of a new file's name, `.ringplan-new`
+abbrev pub ending : ℕ
+ending = 13
+
+-- the new file's name has its ending too
+abbrev pub longestPath : ℕ
+longestPath = longestName - ending
+
+-- a path has a byte, and is no longer than that
 pub record IsPath (path : List ℕ) : Type 0 where
   pub some : 1 ≤ length path
-  pub short : length path ≤ 4082
+  pub short : length path ≤ longestPath

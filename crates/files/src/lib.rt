@@ -3,6 +3,16 @@
 ghost use mathlib.Core.Path.{_≡_};
 ghost use mathlib.Core.Bool.{true};
 ghost use Rattle.files.specs.Files.{Within, IsPath};
+use libc::PATH_MAX;
+
+// The bytes of the longest name that the system takes: with the 0 after them it has so many.
+const LONGEST_NAME: usize = PATH_MAX - 1;
+
+// The bytes of the ending of a new file's name, `.ringplan-new`.
+const ENDING: usize = 13;
+
+// The longest path of a file to write: the new file's name has its ending too.
+const LONGEST_PATH: usize = LONGEST_NAME - ENDING;
 
 // How many bytes were read, or that the file cannot be opened or read.
 pub enum FileRead {
@@ -77,9 +87,6 @@ fn replace(name: &[u8], path: &[u8], bytes: &[u8]) -> bool {
     false
 }
 
-// The longest path: with the ending of the new file's name it has the 4,095 bytes that the system takes.
-const LONGEST: usize = 4082;
-
 // Writes a file of some bytes: beside it a new one is made, with `.ringplan-new` after its name, which takes the name when it is whole.
 // Where anything fails, no new file is left and an old one is as it was.
 pub fn write_file(path: &[u8], bytes: &[u8]) -> bool
@@ -88,13 +95,13 @@ pub fn write_file(path: &[u8], bytes: &[u8]) -> bool
     if path.len() == 0 {
         return false;
     }
-    if LONGEST < path.len() {
+    if LONGEST_PATH < path.len() {
         return false;
     }
     if !may_replace(path) {
         return false;
     }
-    let mut name = [0u8; 4095];
+    let mut name = [0u8; LONGEST_NAME];
     let end = buffer::put_text(&mut name, 0, path);
     let end = buffer::put_text(&mut name, end, b".ringplan-new");
     replace(&name[..end], path, bytes)

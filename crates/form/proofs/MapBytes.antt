@@ -7,6 +7,7 @@ use native.Mathlib.Nat.{le-of-suc-le-suc, not-suc-le-zero}
 use native.Mathlib.Omega.{arith}
 use lib.ListN.{length, getD}
 use Rattle.basis.specs.Count.{All}
+use Rattle.limits.specs.Limits.{placeCount}
 use Rattle.lit_words.specs.Lit.{bitOf, word}
 use Rattle.lit_words.proofs.Bits.{word-bit, word-of}
 use Rattle.form.specs.Form.{mapBytes, mapWidth}
@@ -26,7 +27,7 @@ map-byte lit (suc k) p zero h = let e : 8 * 0 + p ≡ p = omega arith in rw e
 map-byte lit (suc k) p (suc j) h = let e : 8 * j + (8 + p) ≡ 8 * suc j + p = omega arith in map-byte lit k (8 + p) j (le-of-suc-le-suc h) ∙ rw e
 
 -- the map that is written says which places are lit
-pub map-says : (lit : ℕ → Bool) (p : ℕ) → p < 128 → mapBit (mapBytes lit mapWidth 0) p ≡ lit p
+pub map-says : (lit : ℕ → Bool) (p : ℕ) → p < placeCount → mapBit (mapBytes lit mapWidth 0) p ≡ lit p
 unfolding mapBit
 map-says lit p h =
     let e : 8 * (p / 8) + 0 + p % 8 ≡ p = omega arith in

@@ -8,13 +8,13 @@ use native.Mathlib.Omega.{arith}
 use lib.Dec.{leb}
 use lib.ListN.{length, take, drop, replicate}
 use lib.Seq.{take-at, length-take-le}
-use borrow.Author.Tests.{le-leb, leb-true, eqb-true, not-true}
+use borrow.Author.Tests.{le-leb, leb-true, eqb-true}
 use Rattle.basis.specs.Count.{total}
 use Rattle.basis.proofs.Bools.{and-left, and-right, all-right}
+use Rattle.limits.specs.Limits.{placeCount}
 use Rattle.lit_words.specs.Lit.{noneLitFrom}
-use Rattle.lit_words.proofs.NoneLit.{at-none-lit, none-lit-same}
+use Rattle.lit_words.proofs.NoneLit.{none-lit-same}
 use Rattle.channels.specs.Channels.{Channels, litAt}
-use Rattle.channels.proofs.LitPlaces.{unlit-not}
 use Rattle.ports.specs.Ports.{limitOf, eachAtMost}
 use Rattle.ports.proofs.Counts.{each-take}
 use Rattle.refusals.specs.declared.Refusal.the-variants.{NodeCount, PortCount, PortSum, BadField, BrokenForm}
@@ -60,12 +60,12 @@ table-back t m =
     let sum : total (portsBytes t) ≡ total (t .ports) = total-nodes (t .nodes) (t .ports) spare in
     let count : length (portsBytes t) ≡ t .nodes = length-take-le (t .nodes) (t .ports) (omega (arith, l .most, l .fields)) in
     let ports : portsBytes t ++ replicate (64 - t .nodes) 0 ≡ t .ports = rw (l .fields) at (nodes-zeros (t .nodes) (t .ports) spare) in
-    let records : readRecords (mapBit (mapBytes lit mapWidth 0)) 128 0 (recordsBytes (t .channels)) ≡ got (t .channels) [] =
+    let records : readRecords (mapBit (mapBytes lit mapWidth 0)) placeCount 0 (recordsBytes (t .channels)) ≡ got (t .channels) [] =
     rw (append-nil, l .long) at (records-back (mapBit (mapBytes lit mapWidth 0)) (t .channels) 0 [] (λ j k. rw zero-add (map-says lit j (omega (arith, l .long))))) in
     rw (
       ports-back (t .nodes) (portsBytes t) (mapBytes lit mapWidth 0 ++ recordsBytes (t .channels)) (l .three) (l .most) count
           (each-take 64 (t .nodes) (t .ports) (search (and-left, and-right))) (omega (arith, sum, leb-true (total (t .ports)) 192 (search (and-left, and-right)))),
-      map-back lit (limitOf (portsBytes t)) (recordsBytes (t .channels)) (at-none-lit _ lit (λ p k u. not-true (lit p) (rw unlit-not (r .unused p k (omega (arith, sum)))))),
+      map-back lit (limitOf (portsBytes t)) (recordsBytes (t .channels)) (rw sum (r .unused)),
       records,
       checked-back t (portsBytes t) m count ports,
     )
@@ -95,7 +95,7 @@ end-empty [] = refl
 end-empty (x ∷ s) = tt
 
 -- those parts are the form of the table read
-form-is : (s ks m s1 s2 : List ℕ) (chs : Channels) → s ≡ length ks ∷ (ks ++ s1) → Wrote (λ m. m) s1 m s2 → length m ≡ mapWidth → RecordsWrote (mapBit m) 128 0 s2 chs []
+form-is : (s ks m s1 s2 : List ℕ) (chs : Channels) → s ≡ length ks ∷ (ks ++ s1) → Wrote (λ m. m) s1 m s2 → length m ≡ mapWidth → RecordsWrote (mapBit m) placeCount 0 s2 chs []
     → formOf (withChannels (freshTable (length ks) ks) chs) ≡ s
 unfolding formOf
 form-is s ks m s1 s2 chs p q e l =
@@ -110,7 +110,7 @@ unfolding readTable checked
 table-wrote s h =
     then-holds _ _ (readPorts s) _ (ports-are s) λ ks s1 p.
     then-holds _ _ (readMap (limitOf ks) s1) _ (map-wrote (limitOf ks) s1 (all-right (λ x. x < 256) ks s1 ((rw p at h) .1))) λ m s2 q.
-    then-holds _ _ (readRecords (mapBit m) 128 0 s2) _ (records-wrote (mapBit m) 128 0 s2 (q .0 .rest)) λ chs s3 l.
+    then-holds _ _ (readRecords (mapBit m) placeCount 0 s2) _ (records-wrote (mapBit m) placeCount 0 s2 (q .0 .rest)) λ chs s3 l.
     then-holds _ _ (end s3) _ (end-empty s3) λ u s4 e.
     unless-holds _ BrokenForm (meetsRules (withChannels (freshTable (length ks) ks) chs)) s4 _ λ g.
     form-is s ks m s1 s2 chs p (q .0) (q .1) (rw e at l)
@@ -121,6 +121,6 @@ unfolding readTable checked
 table-meets s =
     then-any _ (readPorts s) _ λ ks s1.
     then-any _ (readMap (limitOf ks) s1) _ λ m s2.
-    then-any _ (readRecords (mapBit m) 128 0 s2) _ λ chs s3.
+    then-any _ (readRecords (mapBit m) placeCount 0 s2) _ λ chs s3.
     then-any _ (end s3) _ λ u s4.
     unless-holds _ BrokenForm (meetsRules (withChannels (freshTable (length ks) ks) chs)) s4 _ λ g. g

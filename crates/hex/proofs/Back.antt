@@ -8,7 +8,7 @@ use lib.Dec.{leb, ltb}
 use borrow.Author.Tests.{lt-ltb, le-ltb, le-leb, lt-leb, ltb-true, ltb-false, leb-true}
 use Rattle.basis.specs.Count.{All}
 use Rattle.basis.proofs.Bools.{and-left, and-right, and-false}
-use Rattle.hex.specs.Hex.{digitOf, pairOf, hexOf, valueOf, byteOf, isHex, bytesOf}
+use Rattle.hex.specs.Hex.{digitOf, pairOf, hexOf, noDigit, valueOf, noByte, byteOf, isHex, bytesOf}
 
 -- the value of the digit of a value
 value-digit : (v : ℕ) → v < 16 → valueOf (digitOf v) ≡ v
@@ -27,8 +27,8 @@ value-digit v h = go (ltb v 10) refl
 byte-pair : (x : ℕ) → x < 256 → byteOf (digitOf (x / 16)) (digitOf (x % 16)) ≡ x
 unfolding byteOf
 byte-pair x h =
-    let a : x / 16 < 16 = omega arith in
-    let b : x % 16 < 16 = omega arith in
+    let a : x / noDigit < noDigit = omega arith in
+    let b : x % noDigit < noDigit = omega arith in
     rw (value-digit (x / 16) a, value-digit (x % 16) b, lt-ltb (x / 16) 16 a, lt-ltb (x % 16) 16 b) (omega arith)
 
 -- bytes, each below 256, are read back from their digits
@@ -43,7 +43,7 @@ hex-good [] h = refl
 hex-good (x ∷ s) h = rw (byte-pair x (h .0), lt-ltb x 256 (h .0), hex-good s (h .1))
 
 -- the digit of the value of a digit
-digit-value : (x : ℕ) → valueOf x < 16 → digitOf (valueOf x) ≡ x
+digit-value : (x : ℕ) → valueOf x < noDigit → digitOf (valueOf x) ≡ x
 unfolding valueOf
 digit-value x h = go (leb 48 x && leb x 57) refl
   where
@@ -51,7 +51,7 @@ digit-value x h = go (leb 48 x && leb x 57) refl
     other true k e =
         let l : 97 ≤ x = leb-true 97 x (and-left (leb 97 x) (leb x 102) k) in
         rw (e, k, le-ltb (x - 87) 10 (omega arith)) (omega arith)
-    other false k e = let z : 16 < 16 = rw (e, k) at h in absurd (omega arith)
+    other false k e = let z : noDigit < noDigit = rw (e, k) at h in absurd (omega arith)
 
     go : (t : Bool) → (leb 48 x && leb x 57) ≡ t → digitOf (valueOf x) ≡ x
     go true e =
@@ -61,18 +61,18 @@ digit-value x h = go (leb 48 x && leb x 57) refl
     go false e = other (leb 97 x && leb x 102) refl e
 
 -- the digits of the byte of two digits
-pair-byte : (x y : ℕ) → byteOf x y < 256 → pairOf (byteOf x y) ≡ x ∷ y ∷ []
+pair-byte : (x y : ℕ) → byteOf x y < noByte → pairOf (byteOf x y) ≡ x ∷ y ∷ []
 unfolding byteOf pairOf
-pair-byte x y h = go (ltb (valueOf x) 16 && ltb (valueOf y) 16) refl
+pair-byte x y h = go (ltb (valueOf x) noDigit && ltb (valueOf y) noDigit) refl
   where
-    go : (t : Bool) → (ltb (valueOf x) 16 && ltb (valueOf y) 16) ≡ t → pairOf (byteOf x y) ≡ x ∷ y ∷ []
+    go : (t : Bool) → (ltb (valueOf x) noDigit && ltb (valueOf y) noDigit) ≡ t → pairOf (byteOf x y) ≡ x ∷ y ∷ []
     go true e =
-        let a : valueOf x < 16 = ltb-true (valueOf x) 16 (and-left (ltb (valueOf x) 16) (ltb (valueOf y) 16) e) in
-        let b : valueOf y < 16 = ltb-true (valueOf y) 16 (and-right (ltb (valueOf x) 16) (ltb (valueOf y) 16) e) in
+        let a : valueOf x < noDigit = ltb-true (valueOf x) noDigit (and-left (ltb (valueOf x) noDigit) (ltb (valueOf y) noDigit) e) in
+        let b : valueOf y < noDigit = ltb-true (valueOf y) noDigit (and-right (ltb (valueOf x) noDigit) (ltb (valueOf y) noDigit) e) in
         let p : (16 * valueOf x + valueOf y) / 16 ≡ valueOf x = omega arith in
         let q : (16 * valueOf x + valueOf y) % 16 ≡ valueOf y = omega arith in
         rw (e, p, q, digit-value x a, digit-value y b)
-    go false e = let z : 256 < 256 = rw e at h in absurd (omega arith)
+    go false e = let z : noByte < noByte = rw e at h in absurd (omega arith)
 
 -- a text of digits is written from its bytes
 pub hex-back : (s : List ℕ) → isHex s ≡ true → hexOf (bytesOf s) ≡ s
@@ -80,5 +80,5 @@ unfolding isHex bytesOf hexOf
 hex-back [] h = refl
 hex-back (x ∷ []) h = cc
 hex-back (x ∷ y ∷ s) h =
-    let t : ltb (byteOf x y) 256 ≡ true = and-left (ltb (byteOf x y) 256) (isHex s) h in
-    rw (t, pair-byte x y (ltb-true (byteOf x y) 256 t), hex-back s (and-right (ltb (byteOf x y) 256) (isHex s) h))
+    let t : ltb (byteOf x y) noByte ≡ true = and-left (ltb (byteOf x y) noByte) (isHex s) h in
+    rw (t, pair-byte x y (ltb-true (byteOf x y) noByte t), hex-back s (and-right (ltb (byteOf x y) noByte) (isHex s) h))

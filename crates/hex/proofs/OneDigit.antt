@@ -4,7 +4,7 @@ use mathlib.Core.Path.{_≡_}
 use native.Mathlib.Omega.{arith}
 use borrow.Author.Tests.{lt-ltb, le-ltb, le-leb, lt-leb}
 use Rattle.basis.proofs.Bools.{and-false}
-use Rattle.hex.specs.Hex.{digitOf, valueOf}
+use Rattle.hex.specs.Hex.{digitOf, noDigit, valueOf}
 
 module _ (v : ℕ) where
   pub digit-low : v < 10 → 48 + v ≡ digitOf v
@@ -26,15 +26,15 @@ module _ (x : ℕ) where
       let k : x ≤ 102 = omega arith in
       rw (le-leb 48 x m, lt-leb x 57 n, le-leb 97 x l, le-leb x 102 k) (omega arith)
 
-  pub value-below : x < 48 → 16 ≡ valueOf x
+  pub value-below : x < 48 → noDigit ≡ valueOf x
   unfolding valueOf
   value-below h = let m : x < 97 = omega arith in rw (lt-leb 48 x h, lt-leb 97 x m)
 
-  pub value-between : 57 < x → x < 97 → 16 ≡ valueOf x
+  pub value-between : 57 < x → x < 97 → noDigit ≡ valueOf x
   unfolding valueOf
   value-between l h = rw (lt-leb x 57 l, and-false, lt-leb 97 x h)
 
-  pub value-above : 102 < x → 16 ≡ valueOf x
+  pub value-above : 102 < x → noDigit ≡ valueOf x
   unfolding valueOf
   value-above h = let m : 57 < x = omega arith in rw (lt-leb x 57 m, and-false, lt-leb x 102 h, and-false)
 

@@ -12,22 +12,22 @@ use borrow.Author.Tests.{lt-ltb, le-ltb}
 use Rattle.buffer.specs.Put.{Put, Room}
 use Rattle.buffer.proofs.Put.{put-none, put-put, put-length}
 use Rattle.hex.specs.declared.Digits.the-variants.{Bytes, Bad}
-use Rattle.hex.specs.Hex.{valueOf, byteOf, isHex, bytesOf, Unhexed}
+use Rattle.hex.specs.Hex.{noDigit, valueOf, noByte, byteOf, isHex, bytesOf, Unhexed}
 
 -- the byte of two digits, by their values
 module _ (x y a b : ℕ) (e : a ≡ valueOf x) (k : b ≡ valueOf y) where
-  pub byte-high : 16 ≤ a → 256 ≡ byteOf x y
+  pub byte-high : noDigit ≤ a → noByte ≡ byteOf x y
   unfolding byteOf
-  byte-high h = rw (← e, le-ltb a 16 h)
+  byte-high h = rw (← e, le-ltb a noDigit h)
 
-  module _ (h : a < 16) where
-    pub byte-low : 16 ≤ b → 256 ≡ byteOf x y
+  module _ (h : a < noDigit) where
+    pub byte-low : noDigit ≤ b → noByte ≡ byteOf x y
     unfolding byteOf
-    byte-low g = rw (← e, ← k, lt-ltb a 16 h, le-ltb b 16 g)
+    byte-low g = rw (← e, ← k, lt-ltb a noDigit h, le-ltb b noDigit g)
 
-    pub byte-both : b < 16 → 16 * a + b ≡ byteOf x y
+    pub byte-both : b < noDigit → 16 * a + b ≡ byteOf x y
     unfolding byteOf
-    byte-both g = rw (← e, ← k, lt-ltb a 16 h, lt-ltb b 16 g)
+    byte-both g = rw (← e, ← k, lt-ltb a noDigit h, lt-ltb b noDigit g)
 
 pub ruleset bytes = (byte-high, byte-low, byte-both)
 
@@ -74,21 +74,21 @@ module _ (word l0 l : List ℕ) (count i : ℕ) (q : Unhexing word l0 l count i)
           rw (drop-cons word i 0, ← add-one i, drop-cons word (i + 1) 0, j, add-one (i + 1))
 
       module _ (x : ℕ) (e : x ≡ byteOf (getD word i 0) (getD word (i + 1) 0)) where
-        pub unhex-bad : 256 ≤ x → Unhexed word l0 l Bad
+        pub unhex-bad : noByte ≤ x → Unhexed word l0 l Bad
         unfolding isHex bytesOf
         unhex-bad b =
-            let t : ltb x 256 ≡ false = le-ltb x 256 b in
+            let t : ltb x noByte ≡ false = le-ltb x noByte b in
             let k : bytesOf word ≡ q .stand = q .left ∙ rw (apart, ← e, t, append-nil) in
             record { answer = rw (q .good, apart, ← e, t); left = rw k (q .put .is) }
 
-        module _ (b : x < 256) where
+        module _ (b : x < noByte) where
           pub unhex-room : Room l count (x ∷ [])
           unhex-room = record { fits = omega (arith, q .even, q .space, put-length (q .put)) }
 
           pub unhex-next : (l1 : List ℕ) (next : ℕ) → Put l count (x ∷ []) l1 next → Unhexing word l0 l1 next (i + 2)
           unfolding isHex bytesOf
           unhex-next l1 next p =
-              let t : ltb x 256 ≡ true = lt-ltb x 256 b in
+              let t : ltb x noByte ≡ true = lt-ltb x noByte b in
               record {
                 stand = q .stand ++ (x ∷ []);
                 put = put-put (q .put) p;

@@ -1,4 +1,5 @@
 -- Bytes as hexadecimal digits 0 to 9, a to f, two to a byte with the higher first, and back. Assumes nothing.
+-- What `put_hex` and `read_hex` promise.
 use Prim.Native.Nat.{ℕ, _+_, _-_, _*_, _/_, _%_}
 use mathlib.Core.Path.{_≡_}
 use mathlib.Core.Bool.{Bool, true, false, _&&_}
@@ -23,25 +24,33 @@ unfoldable pub hexOf : List ℕ → List ℕ
 hexOf [] = []
 hexOf (x ∷ s) = pairOf x ++ hexOf s
 
--- the value of a digit; 16 of a byte that is none
-unfoldable pub valueOf : ℕ → ℕ
-valueOf x = pick (leb 48 x && leb x 57) (x - 48) (pick (leb 97 x && leb x 102) (x - 87) 16)
+-- above every digit's value
+abbrev pub noDigit : ℕ
+noDigit = 16
 
--- the byte of two digits; 256 where one of them is none
+-- the value of a digit; `noDigit` of any other byte
+unfoldable pub valueOf : ℕ → ℕ
+valueOf x = pick (leb 48 x && leb x 57) (x - 48) (pick (leb 97 x && leb x 102) (x - 87) noDigit)
+
+-- above every byte
+abbrev pub noByte : ℕ
+noByte = 256
+
+-- the byte of two digits; `noByte` where one of them is none
 unfoldable pub byteOf : ℕ → ℕ → ℕ
-byteOf x y = pick (ltb (valueOf x) 16 && ltb (valueOf y) 16) (16 * valueOf x + valueOf y) 256
+byteOf x y = pick (ltb (valueOf x) noDigit && ltb (valueOf y) noDigit) (16 * valueOf x + valueOf y) noByte
 
 -- a text is digits, an even number of them
 unfoldable pub isHex : List ℕ → Bool
 isHex [] = true
 isHex (x ∷ []) = false
-isHex (x ∷ y ∷ s) = ltb (byteOf x y) 256 && isHex s
+isHex (x ∷ y ∷ s) = ltb (byteOf x y) noByte && isHex s
 
 -- the bytes that the digits of a text are, up to the first two that are no byte's
 unfoldable pub bytesOf : List ℕ → List ℕ
 bytesOf [] = []
 bytesOf (x ∷ []) = []
-bytesOf (x ∷ y ∷ s) = pick (ltb (byteOf x y) 256) (byteOf x y ∷ bytesOf s) []
+bytesOf (x ∷ y ∷ s) = pick (ltb (byteOf x y) noByte) (byteOf x y ∷ bytesOf s) []
 
 -- how many bytes a text is
 abbrev pub digitsOf : List ℕ → Digits

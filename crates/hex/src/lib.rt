@@ -4,7 +4,13 @@ ghost use mathlib.Core.Path.{_≡_};
 ghost use Prim.Native.Nat.{_*_, _≤_, _<_};
 ghost use lib.ListN.{length};
 ghost use Rattle.buffer.specs.Put.{Put, Room};
-ghost use Rattle.hex.specs.Hex.{digitOf, pairOf, hexOf, valueOf, byteOf, Unhexed};
+ghost use Rattle.hex.specs.Hex.{digitOf, pairOf, hexOf, noDigit, valueOf, byteOf, Unhexed};
+
+// What stands for the value of a byte that is no digit: above every digit's.
+const NO_DIGIT: u8 = 16;
+
+// What stands for the byte of two that are not both digits: above every byte.
+const NO_BYTE: u16 = 256;
 
 // How many bytes a text of digits is, or that it is none.
 pub enum Digits {
@@ -46,28 +52,28 @@ pub fn put_hex(out: &mut [u8], at: usize, bytes: &[u8]) -> usize
     next
 }
 
-// The value of a digit, or 16 of a byte that is none.
+// The value of a digit, or that there is none.
 fn value(digit: u8) -> u8
-    ensures { λ r. ⌜ (r ≡ valueOf digit) × (r ≤ 16) ⌝ }
+    ensures { λ r. ⌜ (r ≡ valueOf digit) × (r ≤ noDigit) ⌝ }
 {
     match digit {
         b'0'..=b'9' => digit - b'0',
         b'a'..=b'f' => digit - b'a' + 10,
-        _ => 16,
+        _ => NO_DIGIT,
     }
 }
 
-// The byte of two digits, or 256 where one of them is none.
+// The byte of two digits, or that there is none.
 fn byte(high: u8, low: u8) -> u16
     ensures { λ r. ⌜ r ≡ byteOf high low ⌝ }
 {
     let a = value(high);
     let b = value(low);
-    if 16 <= a {
-        return 256;
+    if NO_DIGIT <= a {
+        return NO_BYTE;
     }
-    if 16 <= b {
-        return 256;
+    if NO_DIGIT <= b {
+        return NO_BYTE;
     }
     16 * a as u16 + b as u16
 }
@@ -84,7 +90,7 @@ pub fn read_hex(word: &[u8], out: &mut [u8]) -> Digits
             return Digits::Bad;
         }
         let byte = byte(word[i], word[i + 1]);
-        if 256 <= byte {
+        if NO_BYTE <= byte {
             return Digits::Bad;
         }
         count = buffer::put_byte(out, count, byte as u8);

@@ -1,11 +1,12 @@
-// A host of the ring controller: it makes rings, opens circuits with a list of move records that it lends, closes some, and prints what
-// it got.
+// A host of the ring controller: it makes rings, opens circuits with a list of move records that it lends, closes some, saves a ring and asks
+// for its loads with lent bytes, and prints what it got.
 // A demonstration: `main` promises only that it is safe, and what it prints is held to the file `stdout` by the gate.
 
 ghost use mathlib.Core.Path.{_≡_};
 ghost use lib.ListN.{replicate};
 ghost use Rattle.moves.specs.Records.{blank};
 ghost use Rattle.ring.specs.Opening.{openOf};
+use encode::Written;
 use libc::STDOUT_FILENO;
 use lightpath::Circuit;
 use lightpath::Place;
@@ -178,16 +179,50 @@ fn move_one(table: RingTable) {
 }
 
 // On a ring of six nodes, an opening that moves two.
-fn move_two() {
+fn move_two() -> RingTable {
     let table = make_ring(6, b"\x01\x01\x01\x01\x01\x01");
     let table = open_circuit(table, circuit(21, 4, 3));
     let table = open_circuit(table, circuit(22, 6, 5));
     let table = open_circuit(table, circuit(23, 5, 6));
     let table = open_circuit(table, circuit(24, 1, 2));
-    open_circuit(table, circuit(25, 2, 4));
+    open_circuit(table, circuit(25, 2, 4))
 }
 
+// The ring is saved in so many of 100 lent bytes.
+fn save_ring(table: RingTable, room: usize) {
+    let mut lent = [0u8; 100];
+    if lent.len() < room {
+        return;
+    }
+    print(b"write to ", room as u64);
+    let written = encode::write(table, &mut lent[..room]);
+    match written {
+        Written::Length(length) => print(b" length ", length as u64),
+        Written::Refused(refusal) => print_refusal(refusal),
+    }
+    end_line();
+}
+
+// The loads of link 1, as they stand in so many lent bytes; each was 99 before.
+fn report_loads(table: RingTable, room: usize) {
+    let mut lent = [99u8; 12];
+    if lent.len() < room {
+        return;
+    }
+    let verdict = load::report(table, &mut lent[..room]);
+    print(b"load ", wide8(lent[0]));
+    print(b" ", wide8(lent[1]));
+    print_verdict(verdict);
+}
+
+// What is lent suffices, or is too short; and a table that breaks a ring rule.
 fn main() {
     move_one(move_three());
-    move_two();
+    let table = move_two();
+    save_ring(table, 100);
+    save_ring(table, 10);
+    save_ring(RingTable::blank(), 100);
+    report_loads(table, 12);
+    report_loads(table, 11);
+    report_loads(RingTable::blank(), 12);
 }

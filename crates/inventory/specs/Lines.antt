@@ -4,15 +4,18 @@ use mathlib.Core.List.{List, [], _∷_, _++_}
 use lib.Dec.{eqb, ltb}
 use lib.ListN.{length}
 use Rattle.basis.specs.Choice.{pick}
+use Rattle.limits.specs.Limits.{circuitRoom}
 use Rattle.lightpath.specs.declared.Circuit.{Circuit}
 use Rattle.slots.specs.Slot.{held}
 use Rattle.channels.specs.Channels.{Channels, circuits}
 use Rattle.refusals.specs.Refusal.{numberOf}
 use Rattle.refusals.specs.declared.Verdict.{Verdict}
 use Rattle.refusals.specs.declared.Verdict.the-variants.{Granted as granted, Refused as refused}
+use Rattle.link_question.specs.Link.{noCircuit}
 use Rattle.text.specs.Bytes.{bytes}
 use Rattle.hex.specs.Hex.{hexOf}
 use Rattle.print.specs.Answers.{piece, lineOf}
+use Rattle.print.specs.Filled.{filledRoom}
 
 -- `read N wavelengths W`, or `read refused R`
 abbrev pub readLine : ℕ → ℕ → Verdict → List ℕ
@@ -36,15 +39,11 @@ numbersLine (k ∷ ks) = piece (bytes " ") k ++ numbersLine ks
 unfoldable pub loadLine : List ℕ → List ℕ
 loadLine loads = bytes "load" ++ numbersLine loads
 
--- the most bytes that it takes
-abbrev pub loadRoom : ℕ → ℕ
-loadRoom n = 5 + 11 * n
-
 -- `link circuit NUMBER`, `link none` or `link refused R`, by the question's 64-bit answer; R is its lowest byte
 unfoldable pub linkLine : ℕ → List ℕ
 linkLine a =
-    pick (ltb a 4294967296) (lineOf (("link circuit ", a) ∷ []))
-    (pick (eqb a 4294967296) (bytes "link none\n")
+    pick (ltb a noCircuit) (lineOf (("link circuit ", a) ∷ []))
+    (pick (eqb a noCircuit) (bytes "link none\n")
     (lineOf (("link refused ", a % 256) ∷ [])))
 
 -- `circuit NUMBER from SOURCE to DESTINATION remark REMARK place PLACE`
@@ -66,6 +65,39 @@ placeLines p (ch ∷ chs) = circuitLines p (held (ch .slot)) ++ placeLines (suc 
 unfoldable pub circuitsText : Channels → List ℕ
 circuitsText t = lineOf (("circuits ", length (circuits t)) ∷ []) ++ placeLines 0 t
 
--- the most bytes that it takes
+-- The most bytes that each takes, with ten digits in place of each `#`; the words are those of the longer line where there are two.
+abbrev pub readRoom : ℕ
+readRoom = filledRoom (bytes "read # wavelengths #\n")
+
+-- for a form of so many bytes
+abbrev pub formRoom : ℕ → ℕ
+formRoom n = filledRoom (bytes "write # ") + (2 * n + 1)
+
+abbrev pub lengthRoom : ℕ
+lengthRoom = filledRoom (bytes "write #\n")
+
+-- one number, and so many with the line end
+abbrev pub numberRoom : ℕ
+numberRoom = filledRoom (bytes " #")
+
+abbrev pub numbersRoom : ℕ → ℕ
+numbersRoom n = numberRoom * n + 1
+
+abbrev pub loadRoom : ℕ → ℕ
+loadRoom n = length (bytes "load") + numbersRoom n
+
+abbrev pub linkRoom : ℕ
+linkRoom = filledRoom (bytes "link circuit #\n")
+
+-- one circuit, those of a place, those of all places
+abbrev pub circuitLineRoom : ℕ
+circuitLineRoom = filledRoom (bytes "circuit # from # to # remark # place #\n")
+
+abbrev pub placeRoom : ℕ
+placeRoom = 2 * circuitLineRoom
+
+abbrev pub placesRoom : ℕ
+placesRoom = circuitRoom * circuitLineRoom
+
 abbrev pub circuitsRoom : ℕ
-circuitsRoom = 21524
+circuitsRoom = filledRoom (bytes "circuits #\n") + placesRoom

@@ -1,8 +1,9 @@
 -- The tests of circuits and the place of a wavelength, from the answers of the calls that they are made of. Each law takes an answer and
 -- the branch's test as they stand in the record of a need, so that `search` finds its premises. Assumes nothing.
-use Prim.Native.Nat.{ℕ, _+_, _*_}
+use Prim.Native.Nat.{ℕ, _+_, _*_, _<_}
 use mathlib.Core.Path.{_≡_}
 use mathlib.Core.Bool.{Bool, true, false, not}
+use native.Mathlib.Nat.{sub-eq-zero-of-le, zero-mod, le-of-lt}
 use native.Mathlib.Omega.{arith}
 use lib.Dec.{eqb, leb, ltb}
 use borrow.Author.Tests.{not-true, not-false}
@@ -18,6 +19,11 @@ pub place-counterclockwise : (w : ℕ) (d : Direction) → d ≡ counterclockwis
 place-counterclockwise w d e = rw e
 
 pub ruleset places = (place-clockwise, place-counterclockwise)
+
+-- no link is ahead of a node that lies past the end
+pub ahead-none : (N s x : ℕ) → x + N < s → 0 ≡ ahead N s x
+unfolding ahead
+ahead-none N s x h = simp (sub-eq-zero-of-le (le-of-lt h), zero-mod)
 
 module _ (N : ℕ) (c : Circuit) where
   -- the source is not on the ring

@@ -1,9 +1,13 @@
 -- 01, "The ring": the numbers that limit a ring, each once. Assumes nothing. What every promise means by these names.
-use Prim.Native.Nat.{ℕ, _*_}
+use Prim.Native.Nat.{ℕ, _*_, _/_}
 
 -- a table has 128 directed wavelength places
 abbrev pub placeCount : ℕ
 placeCount = 128
+
+-- half of them in each direction
+abbrev pub mostWavelengths : ℕ
+mostWavelengths = placeCount / 2
 
 -- N from 3 to 64
 abbrev pub leastNodes : ℕ

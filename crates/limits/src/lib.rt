@@ -4,6 +4,9 @@
 // The directed wavelength places of a table.
 pub const PLACE_COUNT: usize = 128;
 
+// The wavelengths of each direction at most: half of them.
+pub const MOST_WAVELENGTHS: u8 = (PLACE_COUNT / 2) as u8;
+
 // The nodes of a ring at least.
 pub const LEAST_NODES: u8 = 3;
 

@@ -8,7 +8,9 @@ use native.Mathlib.Decide.{decLt, ℕ-discrete}
 use native.Mathlib.Omega.{arith}
 use lib.Dec.{eqb, leb, ltb}
 use borrow.Author.Tests.{ltb-true, ltb-false, le-leb, lt-leb, eq-eqb, ne-eqb}
-use Rattle.lit_words.specs.Lit.{Lit, word, wordsOf, withPlace, RoomFor}
+use Rattle.limits.specs.Limits.{placeCount}
+use Rattle.lit_words.specs.Lit.{Lit, word, wordsOf}
+use Rattle.lit_words.specs.With.{withPlace, RoomFor}
 use Rattle.lit_words.proofs.Bits.{word-lt}
 
 -- words of tests that agree on their places are the same
@@ -62,18 +64,18 @@ module _ (f : ℕ → Bool) where
 
 module _ {f : ℕ → Bool} where
   -- no place has joined from 128 on
-  pub built-start : Built f 128 (record { low = 0; high = 0 })
+  pub built-start : Built f placeCount (record { low = 0; high = 0 })
   built-start = record { words = rw (none 0 (omega arith), none 64 (omega arith)) }
     where
-      none : (i : ℕ) → i ≤ 64 → word (from f 128) 64 i ≡ 0
-      none i l = word-same (from f 128) (λ q. false) 64 i (λ q a b. below-from f 128 q (omega arith)) ∙ word-none 64 i
+      none : (i : ℕ) → i ≤ 64 → word (from f placeCount) 64 i ≡ 0
+      none i l = word-same (from f placeCount) (λ q. false) 64 i (λ q a b. below-from f placeCount q (omega arith)) ∙ word-none 64 i
 
   -- all have at the end
   pub built-end : (p : ℕ) (l : Lit) → Built f p l → p ≤ 0 → l ≡ wordsOf f
   built-end p l b h =
       b .words ∙ rw (word-same (from f p) f 64 0 (λ q i j. at-from f p q (omega arith)), word-same (from f p) f 64 64 (λ q i j. at-from f p q (omega arith)))
 
-  module _ (p : ℕ) (l : Lit) (b : Built f p l) (h : 0 < p) (k : p ≤ 128) where
+  module _ (p : ℕ) (l : Lit) (b : Built f p l) (h : 0 < p) (k : p ≤ placeCount) where
     -- an unlit place changes nothing
     pub built-skip : (r : Bool) → r ≡ f (p - 1) → r ≡ false → Built f (p - 1) l
     built-skip r d e = record { words = b .words ∙ rw (word-same (from f p) (from f (p - 1)) 64 0 (λ q i j. same q), word-same (from f p) (from f (p - 1)) 64 64 (λ q i j. same q)) }

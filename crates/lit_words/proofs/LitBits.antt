@@ -12,6 +12,7 @@ use borrow.Author.Tests.{lt-ltb, le-ltb, ltb-true, ltb-false}
 use Rattle.basis.specs.Count.{countBelow}
 use Rattle.basis.specs.Search.{firstBelow}
 use Rattle.basis.proofs.Below.{count-same, first-same, count-sum, first-bound, first-sum}
+use Rattle.limits.specs.Limits.{placeCount}
 use Rattle.lit_words.specs.Lit.{Lit, bitOf, litBit, wordsOf}
 use Rattle.lit_words.proofs.Bits.{ones-count, trailing-first, word-bit}
 
@@ -29,7 +30,7 @@ high-bits l p =
 
 module _ (l : Lit) (low : l .low < 2 ^ 64) (high : l .high < 2 ^ 64) where
   -- the ones of both words are the lit places
-  pub lit-count : ones (l .low) + ones (l .high) ≡ countBelow 128 (litBit l)
+  pub lit-count : ones (l .low) + ones (l .high) ≡ countBelow placeCount (litBit l)
   lit-count =
       ap₂ _+_ (ones-count 64 (l .low) low) (ones-count 64 (l .high) high)
       ∙ ap₂ _+_ (count-same 64 (bitOf (l .low)) (litBit l) (λ p h. sym (low-bits l p h)))
@@ -47,15 +48,15 @@ module _ (l : Lit) (low : l .low < 2 ^ 64) (high : l .high < 2 ^ 64) where
       ∙ first-same 64 (λ p. not (bitOf (l .high) p)) (λ p. not (litBit l (64 + p))) (λ p h. ap not (sym (high-bits l p)))
 
   -- the first unlit place is the low word's where that has one
-  pub unlit-low : trailingZeros 64 (2 ^ 64 - 1 - l .low) < 64 → trailingZeros 64 (2 ^ 64 - 1 - l .low) ≡ firstBelow 128 (λ p. not (litBit l p))
-  unlit-low h = first-low ∙ sym (first-bound 64 128 (λ p. not (litBit l p)) (omega (arith, first-low)) (omega (arith, first-low)))
+  pub unlit-low : trailingZeros 64 (2 ^ 64 - 1 - l .low) < 64 → trailingZeros 64 (2 ^ 64 - 1 - l .low) ≡ firstBelow placeCount (λ p. not (litBit l p))
+  unlit-low h = first-low ∙ sym (first-bound 64 placeCount (λ p. not (litBit l p)) (omega (arith, first-low)) (omega (arith, first-low)))
 
   -- and else the high word's
-  pub unlit-high : 64 ≤ trailingZeros 64 (2 ^ 64 - 1 - l .low) → 64 + trailingZeros 64 (2 ^ 64 - 1 - l .high) ≡ firstBelow 128 (λ p. not (litBit l p))
+  pub unlit-high : 64 ≤ trailingZeros 64 (2 ^ 64 - 1 - l .low) → 64 + trailingZeros 64 (2 ^ 64 - 1 - l .high) ≡ firstBelow placeCount (λ p. not (litBit l p))
   unlit-high h = ap (λ (n : ℕ). 64 + n) first-high ∙ sym (first-sum 64 64 (λ p. not (litBit l p)) (omega (arith, first-low)))
 
 -- the words say of each place whether it passes the test that they are made of
-pub words-say : (f : ℕ → Bool) (p : ℕ) → p < 128 → litBit (wordsOf f) p ≡ f p
+pub words-say : (f : ℕ → Bool) (p : ℕ) → p < placeCount → litBit (wordsOf f) p ≡ f p
 unfolding litBit
 words-say f p h = go (ltb p 64) refl
   where

@@ -1,2 +1,3 @@
--- The lit places as two words.
+-- The lit places as two words, and the words with one place more.
 pub mod Lit
+pub mod With

@@ -1,6 +1,6 @@
 -- 01, "Saved form": the map says which places are lit, two 64-bit words. Assumes nothing.
 -- What the calls on the lit words promise.
-use Prim.Native.Nat.{ℕ, zero, suc, _+_, _-_, _*_, _/_, _%_, _^_, _≤_, _<_}
+use Prim.Native.Nat.{ℕ, zero, suc, _+_, _-_, _*_, _/_, _%_, _^_}
 use mathlib.Core.Bool.{Bool, _||_, not}
 use lib.Dec.{eqb, ltb}
 use Rattle.basis.specs.Choice.{pick, bit}
@@ -33,13 +33,3 @@ noneLitFrom limit lit = everyBelow placeCount (λ p. ltb p limit || not (lit p))
 -- the words of the places that pass a test
 abbrev pub wordsOf : (ℕ → Bool) → Lit
 wordsOf f = record { low = word f 64 0; high = word f 64 64 }
-
--- the words with one place more, p, which they do not have yet: its bit is added
-abbrev pub withPlace : Lit → ℕ → Lit
-withPlace l p = pick (ltb p 64) (record { low = l .low + 2 ^ p; high = l .high }) (record { low = l .low; high = l .high + 2 ^ (p - 64) })
-
--- the word of place p has room for its bit
-pub record RoomFor (l : Lit) (p : ℕ) : Type 0 where
-  pub below : p < placeCount
-  pub low : p < 64 → l .low + 2 ^ p < 2 ^ 64
-  pub high : 64 ≤ p → l .high + 2 ^ (p - 64) < 2 ^ 64

@@ -6,7 +6,8 @@ ghost use mathlib.Core.Bool.{_||_, not};
 ghost use lib.Dec.{ltb};
 ghost use Rattle.basis.specs.Search.{firstBelow};
 ghost use Rattle.limits.specs.Limits.{placeCount};
-ghost use Rattle.lit_words.specs.Lit.{litBit, onesOf, noneLitFrom, withPlace, RoomFor};
+ghost use Rattle.lit_words.specs.Lit.{litBit, onesOf, noneLitFrom};
+ghost use Rattle.lit_words.specs.With.{withPlace, RoomFor};
 use limits::PLACE_COUNT;
 
 // The lit places: place p is bit p of low, or bit p - 64 of high.

@@ -3,7 +3,6 @@ use Prim.Native.Nat.{ℕ, _*_, _≤_, _<_}
 use mathlib.Core.Path.{_≡_, refl}
 use mathlib.Core.Bool.{true, false}
 use mathlib.Core.List.{List, [], _++_}
-use native.Mathlib.Omega.{arith}
 use lib.ListN.{length, drop}
 use borrow.Author.Tests.{lt-ltb, le-ltb}
 use Rattle.refusals.specs.declared.Refusal.the-variants.{ShortBuffer, BrokenRule}
@@ -12,7 +11,6 @@ use Rattle.refusals.specs.declared.Verdict.the-variants.{Granted as granted, Re
 use Rattle.refusals.specs.Answer.{verdictAnswer, answerBy}
 use Rattle.ring.specs.Table.{meetsRules}
 use Rattle.ring.specs.declared.RingTable.{RingTable}
-use Rattle.ring.proofs.TableRules.{table-limits}
 use Rattle.load.specs.Load.{loads}
 use Rattle.load.specs.Report.{reportOf, reportReasons, bufferAfter}
 
@@ -36,7 +34,3 @@ module _ (t : RingTable) (out : List ℕ) where
       → after ≡ loads (t .nodes) (t .channels) ++ drop (2 * t .nodes) out → Reports t out granted after
   unfolding reportOf
   report-full after h l e = rw (h, le-ltb (length out) (2 * t .nodes) l) (refl, (e, refl))
-
--- a ring that meets the rules has nodes
-pub some-nodes : (t : RingTable) → meetsRules t ≡ true → 0 < t .nodes
-some-nodes t h = let limits = table-limits t h in omega arith

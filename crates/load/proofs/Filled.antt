@@ -21,7 +21,7 @@ drop-two l k h = drop-cons l k 0 (omega arith) ∙ rw (drop-cons l (suc k) 0 h)
 
 module _ (N : ℕ) (t : Channels) where
   -- two bytes for each link
-  loads-length : (k : ℕ) → length (loadsTo k N t) ≡ 2 * k
+  pub loads-length : (k : ℕ) → length (loadsTo k N t) ≡ 2 * k
   unfolding loadsTo
   loads-length zero = refl
   loads-length (suc k) = simp length-append (omega (arith, loads-length k))

@@ -1,7 +1,7 @@
 -- On a ring that meets the rules no link carries more lightpaths in a direction than there are wavelengths: each of them has its own.
 -- Assumes nothing.
 use Prim.Native.Nat.{ℕ, zero, suc, _+_, _≤_, _<_, zero-le}
-use mathlib.Core.Path.{_≡_, refl}
+use mathlib.Core.Path.{_≡_}
 use mathlib.Core.Bool.{true}
 use mathlib.Core.List.{List}
 use native.Mathlib.Decide.{decLt}
@@ -10,17 +10,17 @@ use Rattle.basis.specs.Choice.{bit}
 use Rattle.basis.specs.Count.{All}
 use Rattle.basis.proofs.Bools.{all-join}
 use Rattle.basis.proofs.Weigh.{weigh-append}
+use Rattle.limits.specs.Limits.{mostWavelengths, placeCount}
 use Rattle.lightpath.specs.Place.{placeOf}
 use Rattle.lightpath.specs.Circuit.{uses, users}
 use Rattle.lightpath.specs.declared.Direction.{Direction}
 use Rattle.lightpath.specs.declared.Direction.the-variants.{Clockwise as clockwise, Counterclockwise as counterclockwise}
 use Rattle.lightpath.proofs.Places.{direction-place}
-use Rattle.slots.specs.Slot.{held, isUnlit}
-use Rattle.slots.specs.declared.Slot.{Slot}
-use Rattle.slots.specs.declared.Slot.the-variants.{Unlit as unlit, Alone as alone, Shared as shared}
+use Rattle.slots.specs.Slot.{held}
 use Rattle.channels.specs.Channels.{Channels, at}
 use Rattle.ports.specs.Ports.{wavelengths, limitOf}
 use Rattle.rules.proofs.Rules.{Rules}
+use Rattle.rules.proofs.Unlit.{above-unlit}
 use Rattle.rules.proofs.Fits.{rules-links}
 use Rattle.ring.specs.Table.{meetsRules}
 use Rattle.ring.specs.declared.RingTable.{RingTable}
@@ -42,11 +42,11 @@ module _ (N : ℕ) (ks : List ℕ) (t : Channels) (rules : Rules N ks t) (d : Di
   one-most w = rw (direction-place w d) at (rules-links N ks t rules (placeOf w d) l low high)
 
   -- and none from W up
-  none-above : (w : ℕ) → w < 64 → wavelengths ks ≤ w → on w ≡ 0
+  none-above : (w : ℕ) → w < mostWavelengths → wavelengths ks ≤ w → on w ≡ 0
   unfolding users
-  none-above w i h = dark (at t (placeOf w d)) (rules .unused (placeOf w d) (inside d) (above d))
+  none-above w i h = rw (above-unlit (limitOf ks) t (rules .unused) (placeOf w d) (inside d) (above d))
     where
-      inside : (d : Direction) → placeOf w d < 128
+      inside : (d : Direction) → placeOf w d < placeCount
       inside clockwise = omega arith
       inside counterclockwise = omega arith
 
@@ -54,18 +54,13 @@ module _ (N : ℕ) (ks : List ℕ) (t : Channels) (rules : Rules N ks t) (d : Di
       above clockwise = omega arith
       above counterclockwise = omega arith
 
-      dark : (s : Slot) → isUnlit s ≡ true → users N d l (held s) ≡ 0
-      dark unlit e = refl
-      dark (alone a) e = cc
-      dark (shared a b) e = cc
-
   -- one wavelength more
   below-suc : (n : ℕ) → below (suc n) ≡ below n + on n
   unfolding users lightpathsBelow
   below-suc n = weigh-append (λ c. bit (uses N d c l)) (lightpathsBelow n t d) (held (at t (placeOf n d)))
 
   -- the wavelengths below n carry at most n, and at most W
-  below-most : (n : ℕ) → n ≤ 64 → (below n ≤ n) × (below n ≤ wavelengths ks)
+  below-most : (n : ℕ) → n ≤ mostWavelengths → (below n ≤ n) × (below n ≤ wavelengths ks)
   unfolding users lightpathsBelow
   below-most zero i = (zero-le, zero-le)
   below-most (suc n) i = go (decLt n (wavelengths ks)) (below-most n (omega arith))
@@ -76,7 +71,7 @@ module _ (N : ℕ) (ks : List ℕ) (t : Channels) (rules : Rules N ks t) (d : Di
 
   -- each load is at most W
   pub load-most : linkLoad N t d l ≤ wavelengths ks
-  load-most = below-most 64 (omega arith) .1
+  load-most = below-most mostWavelengths (omega arith) .1
 
 -- each byte of the report is at most W
 pub loads-most : (t : RingTable) → meetsRules t ≡ true → All (λ b. b ≤ wavelengths (t .ports)) (loads (t .nodes) (t .channels))

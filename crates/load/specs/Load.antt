@@ -1,6 +1,7 @@
 -- 01, "Load and link": the load of a link, over the places t of a ring of N nodes. Assumes nothing. What `report` promises.
 use Prim.Native.Nat.{ℕ, zero, suc}
 use mathlib.Core.List.{List, [], _∷_, _++_}
+use Rattle.limits.specs.Limits.{mostWavelengths}
 use Rattle.lightpath.specs.Place.{placeOf}
 use Rattle.lightpath.specs.Circuit.{users}
 use Rattle.lightpath.specs.declared.Circuit.{Circuit}
@@ -14,9 +15,9 @@ unfoldable pub lightpathsBelow : ℕ → Channels → Direction → List Circuit
 lightpathsBelow zero t d = []
 lightpathsBelow (suc w) t d = lightpathsBelow w t d ++ held (at t (placeOf w d))
 
--- the 128 places are 64 wavelengths each way
+-- those of all its wavelengths
 abbrev pub lightpaths : Channels → Direction → List Circuit
-lightpaths t d = lightpathsBelow 64 t d
+lightpaths t d = lightpathsBelow mostWavelengths t d
 
 -- the load of link l in direction d: the number of lightpaths over it
 abbrev pub linkLoad : ℕ → Channels → Direction → ℕ → ℕ

@@ -5,6 +5,7 @@ ghost use mathlib.Core.Bool.{true};
 ghost use mathlib.Core.List.{[], _++_};
 ghost use Prim.Native.Nat.{_*_, _<_, _≤_};
 ghost use lib.ListN.{length, drop};
+ghost use Rattle.limits.specs.Limits.{mostWavelengths};
 ghost use Rattle.lightpath.specs.Place.{placeOf};
 ghost use Rattle.slots.specs.Slot.{held};
 ghost use Rattle.channels.specs.Channels.{at};
@@ -16,6 +17,7 @@ ghost use Rattle.load.specs.Report.{reportOf, reportReasons, bufferAfter
 use channels::Channel;
 use lightpath::Direction;
 use lightpath::Wavelength;
+use limits::MOST_WAVELENGTHS;
 use limits::PLACE_COUNT;
 use refusals::Refusal;
 use refusals::Verdict;
@@ -25,7 +27,7 @@ use slots::Slot;
 // How many of the circuits of a place, lightpaths in its direction, use a link.
 fn users(nodes: u8, direction: Direction, link: u8, slot: Slot) -> u8
     requires { ⌜ 0 < nodes ⌝ }
-    ensures { λ r. ⌜ (r ≡ users nodes direction link (held slot)) × (r ≤ 2) ⌝ }
+    ensures { λ r. ⌜ r ≡ users nodes direction link (held slot) ⌝ }
 {
     match slot {
         Slot::Unlit => 0,
@@ -44,8 +46,8 @@ fn users_on(
     direction: Direction,
     link: u8,
 ) -> u8
-    requires { ⌜ (0 < nodes) × (wavelength < 64) ⌝ }
-    ensures { λ r. ⌜ (r ≡ users nodes direction link (held (at channels (placeOf wavelength direction)))) × (r ≤ 2) ⌝ }
+    requires { ⌜ (0 < nodes) × (wavelength < mostWavelengths) ⌝ }
+    ensures { λ r. ⌜ r ≡ users nodes direction link (held (at channels (placeOf wavelength direction))) ⌝ }
 {
     let place = Wavelength(wavelength).place(direction);
     let slot = channels::slot_at(channels, place.0 as usize);
@@ -59,7 +61,7 @@ pub fn link_load(nodes: u8, channels: [Channel; PLACE_COUNT], direction: Directi
 {
     let mut sum: u8 = 0;
     let mut w: u8 = 0;
-    while w < 64 {
+    while w < MOST_WAVELENGTHS {
         sum += users_on(nodes, channels, w, direction, link);
         w += 1;
     }

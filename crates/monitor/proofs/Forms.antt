@@ -20,9 +20,9 @@ use Rattle.ring.specs.declared.RingTable.{RingTable}
 use Rattle.ring.specs.declared.Answered.{Answered}
 use Rattle.form.specs.Reading.{readOf}
 use Rattle.form.proofs.Laws.{read-meets}
-use Rattle.monitor.specs.Link.{none, refusalOf, linkOf}
+use Rattle.link_question.specs.Link.{noCircuit, refusalOf, linkOf}
 use Rattle.monitor.specs.Question.{ringLink}
-use Rattle.monitor.proofs.Runs.{one-runs, answer-runs, answer-none}
+use Rattle.link_question.proofs.Runs.{one-runs, answer-runs, answer-none}
 
 -- the answer, from what was read
 module _ (form : List ℕ) (a : Answered) (e : a ≡ readOf form) where
@@ -39,6 +39,8 @@ module _ (form : List ℕ) (a : Answered) (e : a ≡ readOf form) where
   pub form-refused : (l w d : ℕ) (x : Refusal) (r : ℕ) → a .verdict ≡ refused x → r ≡ refusalOf x → r ≡ ringLink form l w d
   unfolding ringLink
   form-refused l w d x r g h = rw (← e, g) h
+
+pub ruleset accepting = (accepted-meets, accepted-link, form-refused)
 
 -- which circuit it is, of those at the place of wavelength w in direction d
 module _ (form : List ℕ) (accepted : readOf form .verdict ≡ granted) (l w : ℕ) (d : Direction) (low : 1 ≤ l)
@@ -63,5 +65,5 @@ module _ (form : List ℕ) (accepted : readOf form .verdict ≡ granted) (l w : 
   form-runs = rw same (answer-runs t (read-meets form accepted) l w d low high below)
 
   -- and none where none does
-  pub form-none : All (λ c. uses (t .nodes) d c l ≡ false) there → ringLink form l w (sideOf d) ≡ none
+  pub form-none : All (λ c. uses (t .nodes) d c l ≡ false) there → ringLink form l w (sideOf d) ≡ noCircuit
   form-none h = same ∙ answer-none t (read-meets form accepted) l w d low high below h

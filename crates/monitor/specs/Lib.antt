@@ -1,3 +1,2 @@
--- The definitions of the one-link question: of a ring table, then of a saved form.
-pub mod Link
+-- The one-link question of a saved form.
 pub mod Question

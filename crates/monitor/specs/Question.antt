@@ -6,7 +6,7 @@ use Rattle.refusals.specs.declared.Verdict.{Verdict}
 use Rattle.refusals.specs.declared.Verdict.the-variants.{Granted as granted, Refused as refused}
 use Rattle.ring.specs.declared.RingTable.{RingTable}
 use Rattle.form.specs.Reading.{readOf}
-use Rattle.monitor.specs.Link.{refusalOf, linkOf}
+use Rattle.link_question.specs.Link.{refusalOf, linkOf}
 
 -- the question of the table that was read, or the form's own refusal
 abbrev pub askedBy : RingTable → ℕ → ℕ → ℕ → Verdict → ℕ

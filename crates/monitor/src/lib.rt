@@ -1,114 +1,11 @@
-// The one-link question, for a monitor in C: which circuit runs over a link, on a wavelength, in a direction.
+// The one-link question of a saved form, for a monitor in C.
 
 ghost use mathlib.Core.Path.{_≡_};
-ghost use mathlib.Core.Bool.{true};
-ghost use Prim.Native.Nat.{_<_};
-ghost use Rattle.lightpath.specs.Circuit.{onRing};
-ghost use Rattle.slots.specs.Slot.{held};
-ghost use Rattle.ring.specs.Table.{meetsRules};
-ghost use Rattle.monitor.specs.Link.{refusalOf, way, running, circuitOn, linkVerdict, linkOf, Asked};
 ghost use Rattle.monitor.specs.Question.{ringLink};
-use lightpath::Direction;
-use lightpath::Wavelength;
-use refusals::Refusal;
 use refusals::Verdict;
-use ring::RingTable;
-use slots::Slot;
 
-// The answer where no circuit runs there.
-const NONE: u64 = 4294967296;
-
-// The answer where the question is refused.
-fn refused(refusal: Refusal) -> u64
-    ensures { λ r. ⌜ r ≡ refusalOf refusal ⌝ }
-{
-    NONE + refusals::refusal_number(refusal) as u64
-}
-
-// The direction of a number: 0 clockwise, 1 counterclockwise.
-fn way(direction: u64) -> Direction
-    ensures { λ r. ⌜ r ≡ way direction ⌝ }
-{
-    if direction == 0 {
-        return Direction::Clockwise;
-    }
-    Direction::Counterclockwise
-}
-
-// Of the circuits of a place, lightpaths in its direction, the one that uses a link.
-fn running(nodes: u8, direction: Direction, link: u8, slot: Slot) -> u64
-    requires { ⌜ 0 < nodes ⌝ }
-    ensures { λ r. ⌜ r ≡ running nodes direction link (held slot) ⌝ }
-{
-    match slot {
-        Slot::Unlit => NONE,
-        Slot::Alone(a) => {
-            if a.uses(nodes, direction, link) {
-                return a.number as u64;
-            }
-            NONE
-        }
-        Slot::Shared(a, b) => {
-            if a.uses(nodes, direction, link) {
-                return a.number as u64;
-            }
-            if b.uses(nodes, direction, link) {
-                return b.number as u64;
-            }
-            NONE
-        }
-    }
-}
-
-// Whether a number is that of a link.
-fn is_link(nodes: u8, link: u64) -> bool
-    ensures { λ r. ⌜ r ≡ onRing nodes link ⌝ }
-{
-    1 <= link && link <= nodes as u64
-}
-
-// Whether the link, the wavelength and the direction asked for are there.
-fn judge(table: RingTable, link: u64, wavelength: u64, direction: u64) -> Verdict
-    ensures { λ r. ⌜ r ≡ linkVerdict table link wavelength direction ⌝ }
-{
-    if !is_link(table.nodes, link) {
-        return Verdict::Refused(Refusal::OffRing);
-    }
-    if table.wavelengths() as u64 <= wavelength {
-        return Verdict::Refused(Refusal::NoWavelength);
-    }
-    if 2 <= direction {
-        return Verdict::Refused(Refusal::NoDirection);
-    }
-    Verdict::Granted
-}
-
-// The circuit on the link, on the wavelength in the direction asked for.
-fn circuit_on(table: RingTable, link: u64, wavelength: u64, direction: u64) -> u64
-    requires { ⌜ Asked table link wavelength ⌝ }
-    ensures { λ r. ⌜ r ≡ circuitOn table link wavelength (way direction) ⌝ }
-{
-    let channels = table.channels;
-    let direction = way(direction);
-    let place = Wavelength(wavelength as u8).place(direction);
-    let slot = channels::slot_at(channels, place.0 as usize);
-    running(table.nodes, direction, link as u8, slot)
-}
-
-// The answer to the question of a ring table that meets the rules.
-pub fn link_of(table: RingTable, link: u64, wavelength: u64, direction: u64) -> u64
-    requires { ⌜ meetsRules table ≡ true ⌝ }
-    ensures { λ r. ⌜ r ≡ linkOf table link wavelength direction ⌝ }
-{
-    let verdict = judge(table, link, wavelength, direction);
-    match verdict {
-        Verdict::Granted => circuit_on(table, link, wavelength, direction),
-        Verdict::Refused(refusal) => refused(refusal),
-    }
-}
-
-// The circuit on a link, on a wavelength in a direction, of the ring whose saved form is given; NONE where no circuit runs there; NONE plus
-// the number of the refusal where the question is refused.
+// The circuit on a link, on a wavelength in a direction, of the ring whose saved form is given; 4,294,967,296 where no circuit runs there;
+// that plus the number of the refusal where the question is refused.
 #[no_mangle]
 pub extern "C" fn ring_link(form: &[u8], link: u64, wavelength: u64, direction: u64) -> u64
     ensures { λ r. ⌜ r ≡ ringLink (now (form .entry)) link wavelength direction ⌝ }
@@ -117,7 +14,7 @@ pub extern "C" fn ring_link(form: &[u8], link: u64, wavelength: u64, direction: 
     let table = read.table;
     let verdict = read.verdict;
     match verdict {
-        Verdict::Granted => link_of(table, link, wavelength, direction),
-        Verdict::Refused(refusal) => refused(refusal),
+        Verdict::Granted => link_question::link_of(table, link, wavelength, direction),
+        Verdict::Refused(refusal) => link_question::refused(refusal),
     }
 }

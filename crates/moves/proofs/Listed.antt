@@ -6,14 +6,14 @@ use native.Mathlib.Omega.{arith}
 use lib.ListN.{length, length-take}
 use Rattle.moves.specs.declared.Move.{Move}
 use Rattle.moves.specs.declared.Moves.{Moves}
-use Rattle.moves.specs.Records.{movesOf, listed}
+use Rattle.moves.specs.Records.{mostMoves, movesOf, listed}
 
 -- no answer lists more than three
-pub listed-most : (a : Moves) → length (listed a) ≤ 3
+pub listed-most : (a : Moves) → length (listed a) ≤ mostMoves
 listed-most a = simp length-take (omega arith)
 
 -- up to three moves by value are listed again as they were
-pub listed-moves : (ms : List Move) → length ms ≤ 3 → listed (movesOf ms) ≡ ms
+pub listed-moves : (ms : List Move) → length ms ≤ mostMoves → listed (movesOf ms) ≡ ms
 listed-moves [] h = refl
 listed-moves (a ∷ []) h = refl
 listed-moves (a ∷ b ∷ []) h = refl
@@ -21,7 +21,7 @@ listed-moves (a ∷ b ∷ c ∷ []) h = refl
 listed-moves (a ∷ b ∷ c ∷ d ∷ ms) h = absurd (omega arith)
 
 -- and counted
-pub count-moves : (ms : List Move) → length ms ≤ 3 → movesOf ms .count ≡ length ms
+pub count-moves : (ms : List Move) → length ms ≤ mostMoves → movesOf ms .count ≡ length ms
 count-moves [] h = refl
 count-moves (a ∷ []) h = refl
 count-moves (a ∷ b ∷ []) h = refl

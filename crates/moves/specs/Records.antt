@@ -1,8 +1,13 @@
 -- Move records, and the moves of an answer as a list. Assumes nothing. What `RingTable::open` promises.
+use Prim.Native.Nat.{ℕ}
 use mathlib.Core.List.{List, [], _∷_}
 use lib.ListN.{take}
 use Rattle.moves.specs.declared.Move.{Move}
 use Rattle.moves.specs.declared.Moves.{Moves}
+
+-- an opening moves at most three circuits
+abbrev pub mostMoves : ℕ
+mostMoves = 3
 
 -- a record that names no move: all zeros
 abbrev pub blank : Move

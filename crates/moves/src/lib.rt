@@ -13,6 +13,9 @@ pub struct Move {
     pub to: Place,
 }
 
+// The moves of an opening at most.
+pub const MOST_MOVES: usize = 3;
+
 // Up to three moves by value, in their order: the first `count` of the three.
 pub struct Moves {
     pub count: u8,

@@ -10,6 +10,7 @@ use lib.ListN.{length, getD, take, drop, List·getD-eq-default}
 use borrow.Author.Tests.{lt-ltb}
 use Rattle.basis.specs.Search.{firstBelow, pairsOf}
 use Rattle.basis.proofs.Arrays.{array-length}
+use Rattle.limits.specs.Limits.{placeCount}
 use Rattle.lightpath.specs.Place.{directionOf, sameDirection}
 use Rattle.lightpath.specs.Circuit.{shareDirection}
 use Rattle.lightpath.specs.declared.Direction.{Direction}
@@ -77,7 +78,7 @@ module _ (d : Direction) (rest : List Standing) where
   tests-next : (g : ℕ → Bool) (p : ℕ) (x : Slot) (u : List Slot) → Tests g p (x ∷ u) → Tests (λ i. g (suc i)) (suc p) u
   tests-next g p x u a i l = rw suc-add (rw add-suc at (a (suc i) (omega arith)))
 
-  first-there : (g : ℕ → Bool) (p : ℕ) (u : List Slot) → p + length u ≤ 128 → Tests g p u → firstBelow (length u) g < length u
+  first-there : (g : ℕ → Bool) (p : ℕ) (u : List Slot) → p + length u ≤ placeCount → Tests g p u → firstBelow (length u) g < length u
       → firstIn d (aloneFrom p u ++ rest) ≡ there p u (firstBelow (length u) g)
   first-there g p [] l a h = absurd (omega arith)
   first-there g p (unlit ∷ u) l a h =
@@ -96,13 +97,13 @@ module _ (d : Direction) (rest : List Standing) where
           → (firstBelow (length u) (λ i. g (suc i)) < length u
           → firstIn d (aloneFrom (suc p) u ++ rest) ≡ there (suc p) u (firstBelow (length u) (λ i. g (suc i))))
           → firstIn d (aloneFrom p (alone x ∷ u) ++ rest) ≡ there p (alone x ∷ u) (firstBelow (suc (length u)) g)
-      go true e next = rw (lt-ltb p 128 (omega arith), is, e, add-zero)
+      go true e next = rw (lt-ltb p placeCount (omega arith), is, e, add-zero)
       go false e next =
           let f : g 0 ≡ false = is ∙ e in
-          rw (lt-ltb p 128 (omega arith), e) (later g p (alone x) u _ f (next (omega (arith, rw f at h))))
+          rw (lt-ltb p placeCount (omega arith), e) (later g p (alone x) u _ f (next (omega (arith, rw f at h))))
 
 -- so x is found
-pub x-found : (m : ℕ) (t : Channels) (c : Circuit) (d : Direction) → m ≤ length t → m ≤ 128 → lowestAlone m t d < m
+pub x-found : (m : ℕ) (t : Channels) (c : Circuit) (d : Direction) → m ≤ length t → m ≤ placeCount → lowestAlone m t d < m
     → firstIn d (candidates m t c) ≡ standingAt t (lowestAlone m t d)
 x-found m t c d within low h =
     let long = below-length m t within in
@@ -122,7 +123,7 @@ module _ (N m : ℕ) (t : Channels) (c : Circuit) (can : Searchable N m t c) (al
   found-wanted = rw (are .are) (can .pair)
 
   -- the first, and the first that stands in the direction in which it can share
-  pub found-all : (p : Pair) (d : Direction) (x : Standing) → length t ≡ 128 → p ≡ firstPair (candidateList all)
+  pub found-all : (p : Pair) (d : Direction) (x : Standing) → length t ≡ placeCount → p ≡ firstPair (candidateList all)
       → d ≡ shareDirection N (p .first .circuit) (p .second .circuit) → x ≡ firstIn d (candidateList all) → record { pair = p; x = x } ≡ foundOf N m t c
   found-all p d x long e f h =
       let pair = pair-of m t c (candidateList all) p (are .are) (can .pair) e in

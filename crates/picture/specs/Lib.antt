@@ -1,3 +1,3 @@
--- The picture of a ring: the numbers of its rows, and what printing it leaves.
-pub mod Numbers
-pub mod Picture
+-- The room of a picture, and what its parts ask for.
+pub mod Room
+pub mod Drawn

@@ -1,115 +1,114 @@
-// A row of the picture: what it is about in eleven bytes, then a cell for each link or node.
+// A row of the picture: what it is about, in eleven bytes, and its numbers in columns.
 
 ghost use Prim.Native.Nat.{_+_, _≤_, _<_};
 ghost use lib.ListN.{length};
-ghost use Rattle.picture.specs.Picture.{Drawn, Appended};
-use crate::cell;
-use crate::number;
-use crate::number::Row;
+ghost use Rattle.buffer.specs.Appended.{Appended};
+ghost use Rattle.picture.specs.Room.{rowRoom};
+ghost use Rattle.picture.specs.Drawn.{Drawn};
 use ring::RingTable;
+use row_numbers::Row;
 use slots::Slot;
 
-// The cell of one link or node.
-fn put_column(out: &mut [u8], at: usize, table: RingTable, row: Row, i: u8, width: usize) -> usize
-    requires { ⌜ Drawn table width × (at + 11 ≤ length (now out)) ⌝ }
-    ensures { λ r. ⌜ Appended 11 (now (out .entry)) at (now (out .exit)) r ⌝ }
-{
-    let n = number::number_at(table, row, i);
-    cell::put_cell(out, at, width, n)
+// The bytes of what a row is about, its name.
+pub const NAME_ROOM: usize = 11;
+
+const FROM: [u8; NAME_ROOM] = *b"link   from";
+
+const TO: [u8; NAME_ROOM] = *b"  w   p  to";
+
+const CLOCKWISE: [u8; NAME_ROOM] = *b"load   >   ";
+
+const COUNTERCLOCKWISE: [u8; NAME_ROOM] = *b"load   <   ";
+
+const NODES: [u8; NAME_ROOM] = *b"node       ";
+
+const SENDERS: [u8; NAME_ROOM] = *b"tx free    ";
+
+const RECEIVERS: [u8; NAME_ROOM] = *b"rx free    ";
+
+// The last digit of a number.
+fn last_digit(n: usize) -> u8 {
+    b'0' + (n % 10) as u8
 }
 
-// The cells of all links or nodes.
-fn put_cells(out: &mut [u8], at: usize, table: RingTable, row: Row, width: usize) -> usize
-    requires { ⌜ Drawn table width × (at + 704 ≤ length (now out)) ⌝ }
-    ensures { λ r. ⌜ Appended 704 (now (out .entry)) at (now (out .exit)) r ⌝ }
+// The digit of a number at a unit, or a space where the number is below it.
+fn digit(n: usize, unit: usize) -> u8
+    requires { ⌜ 0 < unit ⌝ }
 {
-    let nodes = table.nodes;
-    let mut next = at;
-    let mut i: u8 = 0;
-    while i < nodes {
-        i += 1;
-        next = put_column(out, next, table, row, i, width);
+    if n < unit {
+        return b' ';
     }
-    next
-}
-
-// The cells of all links or nodes, and the line end.
-fn put_columns(out: &mut [u8], at: usize, table: RingTable, row: Row, width: usize) -> usize
-    requires { ⌜ Drawn table width × (at + 705 ≤ length (now out)) ⌝ }
-    ensures { λ r. ⌜ Appended 705 (now (out .entry)) at (now (out .exit)) r ⌝ }
-{
-    let next = put_cells(out, at, table, row, width);
-    buffer::put_byte(out, next, b'\n')
-}
-
-// A row with a name.
-pub fn put_row(
-    out: &mut [u8],
-    at: usize,
-    name: &[u8],
-    table: RingTable,
-    row: Row,
-    width: usize,
-) -> usize
-    requires { ⌜ Drawn table width × (length (now name) ≤ 11) × (at + 716 ≤ length (now out)) ⌝ }
-    ensures { λ r. ⌜ Appended 716 (now (out .entry)) at (now (out .exit)) r ⌝ }
-{
-    let next = buffer::put_text(out, at, name);
-    put_columns(out, next, table, row, width)
-}
-
-// The wavelength of a place and its number.
-fn put_place_number(out: &mut [u8], at: usize, place: usize) -> usize
-    requires { ⌜ (place < 128) × (at + 22 ≤ length (now out)) ⌝ }
-    ensures { λ r. ⌜ Appended 22 (now (out .entry)) at (now (out .exit)) r ⌝ }
-{
-    let next = cell::put_number(out, at, 2, (place / 2) as u32);
-    cell::put_number(out, next, 3, place as u32)
+    last_digit(n / unit)
 }
 
 // The way round of a place.
-fn put_way(out: &mut [u8], at: usize, place: usize) -> usize
-    requires { ⌜ at + 2 ≤ length (now out) ⌝ }
-    ensures { λ r. ⌜ Appended 2 (now (out .entry)) at (now (out .exit)) r ⌝ }
-{
+fn way(place: usize) -> u8 {
     if place % 2 == 0 {
-        return buffer::put_text(out, at, b" >");
+        return b'>';
     }
-    buffer::put_text(out, at, b" <")
+    b'<'
 }
 
 // Whether two circuits share a place, one is alone there, or none is.
-fn put_sharing(out: &mut [u8], at: usize, slot: Slot) -> usize
-    requires { ⌜ at + 9 ≤ length (now out) ⌝ }
-    ensures { λ r. ⌜ Appended 9 (now (out .entry)) at (now (out .exit)) r ⌝ }
-{
+fn sharing(slot: Slot) -> u8 {
     match slot {
-        Slot::Unlit => buffer::put_text(out, at, b"   unlit\n"),
-        Slot::Alone(_) => buffer::put_text(out, at, b" -"),
-        Slot::Shared(_, _) => buffer::put_text(out, at, b" ="),
+        Slot::Unlit => b' ',
+        Slot::Alone(_) => b'-',
+        Slot::Shared(_, _) => b'=',
     }
 }
 
-// What place it is.
-fn put_name(out: &mut [u8], at: usize, place: usize, slot: Slot) -> usize
-    requires { ⌜ (place < 128) × (at + 33 ≤ length (now out)) ⌝ }
-    ensures { λ r. ⌜ Appended 33 (now (out .entry)) at (now (out .exit)) r ⌝ }
-{
-    let next = put_place_number(out, at, place);
-    let next = put_way(out, next, place);
-    put_sharing(out, next, slot)
+// The name of a place: its wavelength and its number, which way round it is and whether it is shared.
+fn place_name(place: usize, slot: Slot) -> [u8; NAME_ROOM] {
+    [
+        b' ',
+        digit(place / 2, 10),
+        last_digit(place / 2),
+        b' ',
+        digit(place, 100),
+        digit(place, 10),
+        last_digit(place),
+        b' ',
+        way(place),
+        b' ',
+        sharing(slot),
+    ]
 }
 
-// The row of a place.
-pub fn put_place(out: &mut [u8], at: usize, table: RingTable, place: usize, width: usize) -> usize
-    requires { ⌜ Drawn table width × (place < 128) × (at + 738 ≤ length (now out)) ⌝ }
-    ensures { λ r. ⌜ Appended 738 (now (out .entry)) at (now (out .exit)) r ⌝ }
-{
+// The name of a row.
+fn name_of(table: RingTable, row: Row) -> [u8; NAME_ROOM] {
     let channels = table.channels;
-    let slot = channels::slot_at(channels, place);
-    let next = put_name(out, at, place, slot);
-    if slot.is_unlit() {
-        return next;
+    match row {
+        Row::From => FROM,
+        Row::To => TO,
+        Row::Place(place) => place_name(place, channels::slot_at(channels, place)),
+        Row::Clockwise => CLOCKWISE,
+        Row::Counterclockwise => COUNTERCLOCKWISE,
+        Row::Nodes => NODES,
+        Row::Senders => SENDERS,
+        Row::Receivers => RECEIVERS,
     }
-    put_columns(out, next, table, Row::Place(place), width)
+}
+
+// Whether a row is that of an unlit place.
+fn is_unlit(table: RingTable, row: Row) -> bool {
+    let channels = table.channels;
+    match row {
+        Row::Place(place) => channels::slot_at(channels, place).is_unlit(),
+        _ => false,
+    }
+}
+
+// A row.
+pub fn put_row(out: &mut [u8], at: usize, table: RingTable, row: Row, width: usize) -> usize
+    requires { ⌜ Drawn table width × (at + rowRoom ≤ length (now out)) ⌝ }
+    ensures { λ r. ⌜ Appended rowRoom (now (out .entry)) at (now (out .exit)) r ⌝ }
+{
+    let name = name_of(table, row);
+    let next = buffer::put_text(out, at, &name);
+    if is_unlit(table, row) {
+        return buffer::put_text(out, next, b" unlit\n");
+    }
+    let numbers = row_numbers::numbers_of(table, row);
+    columns::put_columns(out, next, numbers, table.nodes as usize, width)
 }

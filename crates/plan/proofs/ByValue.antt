@@ -11,9 +11,11 @@ use Rattle.lightpath.specs.declared.Circuit.{Circuit}
 use Rattle.channels.specs.Channels.{Channels}
 use Rattle.channels.specs.Nonsharing.{standingAt}
 use Rattle.channels.specs.declared.Standing.{Standing}
-use Rattle.channels.specs.Change.{puts, inOrder}
+use Rattle.channels.specs.Change.{puts}
+use Rattle.channels.specs.Changes.{inOrder}
 use Rattle.channels.specs.declared.Change.{Change}
 use Rattle.channels.proofs.Puts.{puts-one, puts-two}
+use Rattle.moves.specs.Records.{mostMoves}
 use Rattle.moves.proofs.Listed.{count-moves}
 use Rattle.steps.specs.Steps.{nowhere, joinPlace, unlitPlace, foundPair, looks, standsRight, xOf, exchanging, rearranging, stepThree, planOf}
 use Rattle.steps.specs.Plan.{Plan, joining, lighting, oneMove, twoMoves, threeMoves}
@@ -31,7 +33,7 @@ carries (a ∷ b ∷ c ∷ d ∷ l) t h k = absurd (omega arith)
 record Small (plan : Plan) : Type 0 where
   least : 1 ≤ length (plan .changes)
   most : length (plan .changes) ≤ 3
-  few : length (plan .moves) ≤ 3
+  few : length (plan .moves) ≤ mostMoves
 
 small-of : (b : Bool) (p q : Plan) → Small p → Small q → Small (pick b p q)
 small-of true p q h k = h

@@ -10,11 +10,13 @@ use borrow.Author.Tests.{lt-ltb, le-ltb, ltb-false}
 use Rattle.basis.specs.Choice.{pick}
 use Rattle.basis.proofs.Arrays.{array-length}
 use Rattle.basis.proofs.Bools.{or-false}
+use Rattle.limits.specs.Limits.{placeCount}
 use Rattle.lightpath.specs.Circuit.{shareDirection}
 use Rattle.lightpath.specs.declared.Circuit.{Circuit}
 use Rattle.channels.specs.Channels.{Channels}
 use Rattle.steps.specs.Plan.{joining, lighting}
-use Rattle.steps.specs.Steps.{joinPlace, unlitPlace, foundPair, rearranging, planOf, Ready}
+use Rattle.steps.specs.Steps.{joinPlace, unlitPlace, foundPair, rearranging, planOf}
+use Rattle.steps.specs.Ready.{Ready}
 use Rattle.steps.proofs.Candidates.{found-couple, both-old}
 use Rattle.survey.specs.declared.Survey.{Survey}
 use Rattle.survey.specs.Survey.{surveyOf, unlitBy}
@@ -62,7 +64,7 @@ module _ (N m : ℕ) (t : Channels) (c : Circuit) (v : Survey) (e : v ≡ survey
     plan-searchable = record { nodes = ready .nodes; low = ready .low; pair = ready .pair (none .0) (none .1); lane = ready .lane (none .0) (none .1) }
 
     module _ (f : Found) (d : f ≡ foundOf N m t c) where
-      pub plan-movable : length t ≡ 128 → Movable N f
+      pub plan-movable : length t ≡ placeCount → Movable N f
       plan-movable long =
           let within : m ≤ length t = omega (arith, long, ready .low) in
           let found = found-couple m t c within (ready .low) (plan-searchable .pair) in

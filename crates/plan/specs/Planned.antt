@@ -7,7 +7,8 @@ use Rattle.limits.specs.Limits.{placeCount}
 use Rattle.slots.specs.declared.Slot.the-variants.{Unlit as unlit}
 use Rattle.channels.specs.declared.Change.{Change}
 use Rattle.channels.specs.declared.Changes.{Changes}
-use Rattle.channels.specs.Change.{_gets_, oneChange, twoChanges, threeChanges, Placed}
+use Rattle.channels.specs.Change.{_gets_}
+use Rattle.channels.specs.Changes.{oneChange, twoChanges, threeChanges, Placed}
 use Rattle.moves.specs.Records.{movesOf}
 use Rattle.steps.specs.Plan.{Plan}
 use Rattle.steps.specs.Steps.{nowhere, standsRight}

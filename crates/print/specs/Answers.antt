@@ -4,6 +4,7 @@ use Prim.Native.Nat.{ℕ, _+_, _*_}
 use Prim.Native.String.{String}
 use mathlib.Core.List.{List, [], _∷_, _++_}
 use Rattle.moves.specs.declared.Move.{Move}
+use Rattle.moves.specs.Records.{mostMoves}
 use Rattle.refusals.specs.Refusal.{numberOf}
 use Rattle.refusals.specs.declared.Verdict.{Verdict}
 use Rattle.refusals.specs.declared.Verdict.the-variants.{Granted as granted, Refused as refused}
@@ -72,6 +73,6 @@ ringRoom = 39
 abbrev pub refusedRoom : ℕ
 refusedRoom = 13
 
--- an opening's line and three move lines
+-- an opening's line and its move lines
 abbrev pub openingRoom : ℕ
-openingRoom = openRoom + 3 * moveRoom
+openingRoom = openRoom + mostMoves * moveRoom

@@ -3,10 +3,11 @@ ghost use Prim.Native.Nat.{_+_, _*_, _≤_};
 ghost use mathlib.Core.List.{_++_};
 ghost use lib.ListN.{length};
 ghost use Rattle.buffer.specs.Put.{Printed};
-ghost use Rattle.moves.specs.Records.{listed};
+ghost use Rattle.moves.specs.Records.{mostMoves, listed};
 ghost use Rattle.refusals.specs.Refusal.{numberOf};
 ghost use Rattle.print.specs.Answers.{lineRefused, ringLine, closeLine, openLine, moveLine, moveLines, openRoom, moveRoom, closeRoom, ringRoom, refusedRoom, openingRoom};
 ghost use Rattle.print.specs.Filled.{filled, filledRoom};
+use moves::MOST_MOVES;
 use moves::Move;
 use moves::Moves;
 use refusals::Refusal;
@@ -18,8 +19,8 @@ const OPEN_ROOM: usize = 67;
 
 const MOVE_ROOM: usize = 46;
 
-// The most bytes of an answer: an opening's line and three move lines.
-pub const OPENING_ROOM: usize = OPEN_ROOM + 3 * MOVE_ROOM;
+// The most bytes of an answer: an opening's line and its move lines.
+pub const OPENING_ROOM: usize = OPEN_ROOM + MOST_MOVES * MOVE_ROOM;
 
 // The words of a line with a number in place of each `#`, up to four in their order.
 pub fn put_filled(
@@ -80,8 +81,8 @@ fn put_move(out: &mut [u8], at: usize, m: Move) -> usize
 
 // The lines of the moves, in their order.
 fn put_moves(out: &mut [u8], at: usize, moves: Moves) -> usize
-    requires { ⌜ at + 3 * moveRoom ≤ length (now out) ⌝ }
-    ensures { λ r. ⌜ Printed (3 * moveRoom) (now (out .entry)) at (moveLines (listed moves)) (now (out .exit)) r ⌝ }
+    requires { ⌜ at + mostMoves * moveRoom ≤ length (now out) ⌝ }
+    ensures { λ r. ⌜ Printed (mostMoves * moveRoom) (now (out .entry)) at (moveLines (listed moves)) (now (out .exit)) r ⌝ }
 {
     let count = moves.count;
     if count == 0 {

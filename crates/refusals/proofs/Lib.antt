@@ -1,2 +1,3 @@
--- The laws of the refusals: an answer that goes by causes is the answer by their numbers.
+-- The laws of the refusals: a verdict by its causes; an answer that goes by causes is the answer by their numbers.
+pub mod Judged
 pub mod Reasons

@@ -3,13 +3,9 @@
 use Prim.Native.Nat.{ℕ}
 use mathlib.Core.Path.{_≡_, refl, ap}
 use mathlib.Core.Bool.{Bool, true, false, _&&_, _||_, not}
-use mathlib.Core.List.{List, [], _∷_}
 use native.Mathlib.Omega.{arith}
 use lib.Dec.{leb}
-use borrow.Author.Tests.{lt-ltb, le-ltb, ltb-true, ltb-false, not-false, eq-eqb, ne-eqb}
-use Rattle.basis.specs.Choice.{pick}
-use Rattle.basis.specs.Count.{All}
-use Rattle.basis.proofs.Branch.{pick-true, pick-false, said, not-said}
+use borrow.Author.Tests.{ltb-true, ltb-false, not-false}
 use Rattle.basis.proofs.Bools.{and-both, not-leb, not-ltb}
 use Rattle.lightpath.specs.Circuit.{onRing}
 use Rattle.lightpath.specs.declared.Circuit.{Circuit}
@@ -17,15 +13,13 @@ use Rattle.channels.specs.Channels.{circuits, numbered}
 use Rattle.ports.specs.Ports.{portsAt}
 use Rattle.ports_used.specs.PortsUsed.{sends, receives}
 use Rattle.rules.proofs.Allowable.{Allowable}
-use Rattle.refusals.specs.Refusal.{Cause, judged}
-use Rattle.refusals.specs.declared.Verdict.the-variants.{Granted as granted, Refused as refused}
+use Rattle.refusals.specs.Refusal.{judged}
+use Rattle.refusals.specs.declared.Verdict.the-variants.{Granted as granted}
 use Rattle.ring.specs.Table.{RingTable}
 use Rattle.ring.specs.Opening.{requestCauses, openCauses}
+use Rattle.refusals.proofs.Judged.{none-holds}
 use Rattle.refusals.proofs.Reasons.{Agree}
 use Rattle.ring.specs.Demand3.{reasons}
-
--- for `search verdict`: a verdict from the tests that the code made
-pub ruleset verdict = (pick-true, pick-false, said, not-said, lt-ltb, le-ltb, eq-eqb, ne-eqb)
 
 -- a node off the ring, by each of its two bounds
 off-ring : (a b c d : Bool) → not ((a && b) && (c && d)) ≡ (not a || not b || not c || not d)
@@ -58,23 +52,6 @@ agree t c n = (
     ),
   ),
 )
-
--- a request that is granted is granted by the later causes
-pub granted-rest : (x : Cause) (xs : List Cause) → judged (x ∷ xs) ≡ granted → judged xs ≡ granted
-granted-rest x xs e = go (x .holds) e
-  where
-    go : (o : Bool) → pick o (refused (x .refusal)) (judged xs) ≡ granted → judged xs ≡ granted
-    go true e = cc
-    go false e = e
-
--- and by each cause
-pub none-holds : (l : List Cause) → judged l ≡ granted → All (λ x. x .holds ≡ false) l
-none-holds [] e = tt
-none-holds (x ∷ xs) e = (go (x .holds) e, none-holds xs (granted-rest x xs e))
-  where
-    go : (o : Bool) → pick o (refused (x .refusal)) (judged xs) ≡ granted → o ≡ false
-    go true e = cc
-    go false e = refl
 
 -- then the ports permit it: the only place that knows where each cause stands
 pub allowable : (t : RingTable) (c : Circuit) → judged (requestCauses t c) ≡ granted → Allowable (t .nodes) (t .ports) (t .channels) c

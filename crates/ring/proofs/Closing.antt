@@ -7,6 +7,7 @@ use mathlib.Core.Bool.{Bool, true, false, not}
 use mathlib.Core.List.{[], _∷_}
 use lib.Dec.{ltb}
 use borrow.Author.Tests.{not-true, lt-ltb, le-ltb}
+use Rattle.limits.specs.Limits.{placeCount}
 use Rattle.channels.specs.Channels.{Channels, at, live, whereIs, circuitOf}
 use Rattle.channels.proofs.Numbers.{live-where}
 use Rattle.channels.specs.Closing.{closed}
@@ -51,17 +52,17 @@ module _ (t : RingTable) (n : ℕ) (rules : meetsRules t ≡ true) where
   close-dead d = rw (rules, d)
 
   -- it is live where it has a place
-  placed : live (t .channels) n ≡ ltb (whereIs (t .channels) n) 128
+  placed : live (t .channels) n ≡ ltb (whereIs (t .channels) n) placeCount
   placed = live-where (t .channels) n (table-limits t rules .long)
 
   -- a number that was found is closed
-  pub close-found : (p : ℕ) (chs : Channels) → p ≡ whereIs (t .channels) n → p < 128 → chs ≡ closed (t .channels) n
+  pub close-found : (p : ℕ) (chs : Channels) → p ≡ whereIs (t .channels) n → p < placeCount → chs ≡ closed (t .channels) n
       → record { table = withChannels t chs; verdict = granted } ≡ closeOf t n
-  close-found p chs e h k = rw k (sym (close-live (placed ∙ lt-ltb (whereIs (t .channels) n) 128 (rw e at h))))
+  close-found p chs e h k = rw k (sym (close-live (placed ∙ lt-ltb (whereIs (t .channels) n) placeCount (rw e at h))))
 
   -- one that was not is refused
-  pub close-missed : (p : ℕ) → p ≡ whereIs (t .channels) n → 128 ≤ p → closedBy t n (refused NotLive) ≡ closeOf t n
-  close-missed p e h = sym (close-dead (placed ∙ le-ltb (whereIs (t .channels) n) 128 (rw e at h)))
+  pub close-missed : (p : ℕ) → p ≡ whereIs (t .channels) n → placeCount ≤ p → closedBy t n (refused NotLive) ≡ closeOf t n
+  close-missed p e h = sym (close-dead (placed ∙ le-ltb (whereIs (t .channels) n) placeCount (rw e at h)))
 
   -- what the closing of the places keeps
   keeps : live (t .channels) n ≡ true → Kept (t .nodes) (t .ports) (t .channels) (circuitOf (t .channels) n ∷ []) [] (closed (t .channels) n) []

@@ -29,9 +29,10 @@ use Rattle.ring.specs.Opening.{taken, Opened, Decision, openCauses, deci
 use Rattle.ring.specs.Answer.{openingAnswer}
 use Rattle.ring.specs.Demand3.{reasons, Refused3, Served3, ServedBy, Demand3, movesIn, Demand3Lent}
 use Rattle.ring.specs.Numbers.{openReasons, openValues}
-use Rattle.ring.proofs.Causes.{none-holds, agree}
+use Rattle.refusals.proofs.Judged.{none-holds}
+use Rattle.ring.proofs.Causes.{agree}
 use Rattle.ring.proofs.Numbers.{open-numbers}
-use Rattle.ring.proofs.Served.{planned, after, decided, serves}
+use Rattle.ring.proofs.Deciding.{planned, after, decided, serves}
 
 module _ (t : RingTable) (c : Circuit) (n : ℕ) (rules : meetsRules t ≡ true) where
   -- a request that no cause meets

@@ -2,10 +2,9 @@
 -- and closing keep the rules; and the handing on of a list that was lent.
 pub mod TableRules
 pub mod Causes
-pub mod Served
+pub mod Deciding
 pub mod Numbers
 pub mod Demand
 pub mod Closing
 pub mod Making
-pub mod Fields
 mod Lending

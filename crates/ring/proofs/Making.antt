@@ -19,9 +19,10 @@ use Rattle.refusals.specs.declared.Refusal.the-variants.{NodeCount}
 use Rattle.refusals.specs.declared.Verdict.{Verdict}
 use Rattle.refusals.specs.declared.Verdict.the-variants.{Granted as granted, Refused as refused}
 use Rattle.ring.specs.Table.{RingTable, meetsRules, blankTable, freshTable}
-use Rattle.ring.specs.Making.{portCauses, makeCauses, madeBy, makeOf}
-use Rattle.ring.proofs.Causes.{none-holds}
-use Rattle.ring.proofs.Fields.{fields-judged}
+use Rattle.ring.specs.Making.{madeBy, makeOf}
+use Rattle.causes.specs.Causes.{portCauses, makeCauses}
+use Rattle.refusals.proofs.Judged.{none-holds}
+use Rattle.causes.proofs.Fields.{fields-judged}
 
 module _ (N : ℕ) (ks : List ℕ) (r : Bool) (e : r ≡ (leb 3 N && leb N 64 && eqb (length ks) N)) where
   -- a number of nodes that was found not to hold is refused by 1

@@ -13,7 +13,8 @@ use Rattle.refusals.specs.declared.Refusal.the-variants.{BrokenRule}
 use Rattle.refusals.specs.Answer.{verdictAnswer, answerBy}
 use Rattle.refusals.proofs.Reasons.{in-numbers}
 use Rattle.ring.specs.Table.{RingTable, meetsRules}
-use Rattle.ring.specs.Making.{Answered, makeCauses, madeBy, makeOf}
+use Rattle.ring.specs.Making.{Answered, madeBy, makeOf}
+use Rattle.causes.specs.Causes.{makeCauses}
 use Rattle.ring.specs.Closing.{closeCauses, closedBy, closeOf}
 use Rattle.ring.specs.Opening.{openCauses, decidedBy, decideOf}
 use Rattle.ring.specs.Answer.{openingAnswer}

@@ -21,7 +21,7 @@ use Rattle.ports_used.specs.PortsUsed.{sends, receives}
 use Rattle.rules.specs.Rules.{carried}
 use Rattle.steps.specs.Steps.{planOf}
 use Rattle.steps.specs.Following.{followed}
-use Rattle.steps.specs.Kept.{moved, Names}
+use Rattle.steps.specs.Moved.{moved, Names}
 use Rattle.refusals.specs.Answer.{refusal, done, Reason, _when_, someGiven, firstNumber}
 use Rattle.ring.specs.Table.{RingTable, meetsRules}
 use Rattle.ring.specs.Opening.{Opening, taken, notOpened, Opened}

@@ -1,12 +1,11 @@
 -- 01, "Opening a circuit": the causes of a refusal in their order, and the answer. Assumes nothing.
 -- What `RingTable::open`, `decide` and `decide_valid` promise.
 use Prim.Native.Nat.{ℕ}
-use mathlib.Core.Bool.{_&&_, not}
+use mathlib.Core.Bool.{not}
 use mathlib.Core.List.{List, [], _∷_, _++_}
-use lib.Dec.{eqb, ltb}
+use lib.Dec.{ltb}
 use lib.ListN.{length}
 use Rattle.limits.specs.Limits.{leastRecords}
-use Rattle.lightpath.specs.Circuit.{onRing}
 use Rattle.lightpath.specs.declared.Circuit.{Circuit}
 use Rattle.channels.specs.Channels.{live}
 use Rattle.channels.specs.Change.{puts}
@@ -19,20 +18,17 @@ use Rattle.steps.specs.Plan.{Plan}
 use Rattle.steps.specs.Steps.{planOf}
 use Rattle.refusals.specs.Refusal.{Cause, _if_, judged}
 use Rattle.refusals.specs.declared.Refusal.{Refusal}
-use Rattle.refusals.specs.declared.Refusal.the-variants.{OffRing, SameNode, NumberLive, NoTransmitter, NoReceiver, ShortList, BrokenRule}
+use Rattle.refusals.specs.declared.Refusal.the-variants.{NumberLive, NoTransmitter, NoReceiver, ShortList, BrokenRule}
 use Rattle.refusals.specs.declared.Verdict.{Verdict}
 use Rattle.refusals.specs.declared.Verdict.the-variants.{Granted as granted, Refused as refused}
+use Rattle.causes.specs.Causes.{namedCauses}
 use Rattle.ring.specs.Table.{RingTable, meetsRules, withChannels}
 pub use Rattle.ring.specs.declared.Opening.{Opening}
 pub use Rattle.ring.specs.declared.Opening.the-variants.{Taken as taken, Refused as notOpened}
 pub use Rattle.ring.specs.declared.Opened.{Opened}
 pub use Rattle.ring.specs.declared.Decision.{Decision}
 
--- what a request is refused for by the nodes that it names, on a ring of N nodes: 10, 11
-abbrev pub namedCauses : ℕ → Circuit → List Cause
-namedCauses N c = (OffRing if not (onRing N (c .source) && onRing N (c .destination))) ∷ (SameNode if eqb (c .source) (c .destination)) ∷ []
-
--- and by what is in use: 12, 13, 14
+-- what a request is refused for by what is in use: 12, 13, 14
 abbrev pub usedCauses : RingTable → Circuit → List Cause
 usedCauses t c =
     (NumberLive if live (t .channels) (c .number))
@@ -40,6 +36,7 @@ usedCauses t c =
     ∷ (NoReceiver if not (freeReceiver (t .ports) (t .channels) (c .destination)))
     ∷ []
 
+-- by the nodes that it names, 10 and 11, and by that
 abbrev pub requestCauses : RingTable → Circuit → List Cause
 requestCauses t c = namedCauses (t .nodes) c ++ usedCauses t c
 
@@ -48,8 +45,8 @@ abbrev pub openCauses : RingTable → Circuit → ℕ → List Cause
 openCauses t c n = (ShortList if ltb n leastRecords) ∷ requestCauses t c
 
 -- a plan of the steps carried out: the table after its changes, the place taken, the number of moves and the looks; and the moves
-abbrev pub served : RingTable → Plan → Decision
-served t plan = record {
+abbrev pub carriedOut : RingTable → Plan → Decision
+carriedOut t plan = record {
   opened = record {
     table = withChannels t (puts (plan .changes) (t .channels));
     answer = taken (record { 0 = plan .taken }) (length (plan .moves)) (plan .looks);
@@ -62,7 +59,7 @@ abbrev pub refusing : RingTable → Refusal → Decision
 refusing t r = record { opened = record { table = t; answer = notOpened r }; moves = none }
 
 abbrev pub decidedBy : RingTable → Circuit → Verdict → Decision
-decidedBy t c granted = served t (planOf (t .nodes) (limitOf (t .ports)) (t .channels) c)
+decidedBy t c granted = carriedOut t (planOf (t .nodes) (limitOf (t .ports)) (t .channels) c)
 decidedBy t c (refused r) = refusing t r
 
 -- an opening with a lent list of n records: 22, 20, 10, 11, 12, 13, 14, else the steps

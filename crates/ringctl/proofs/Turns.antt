@@ -2,7 +2,7 @@
 use Prim.Native.Nat.{ℕ, _*_, _≤_, _<_, min}
 use mathlib.Core.Path.{_≡_, refl, sym, _∙_}
 use mathlib.Core.Bool.{Bool, true, false}
-use mathlib.Core.List.{List, [], _∷_}
+use mathlib.Core.List.{List, [], _∷_, _++_}
 use native.Mathlib.Omega.{arith}
 use lib.IntN.{ℤ, pos, negsuc}
 use lib.Dec.{leb}
@@ -15,12 +15,12 @@ use Rattle.desk.specs.Desk.{answerRoom}
 use Rattle.script.specs.declared.Session.{Session}
 use Rattle.script.specs.declared.Fed.{Fed as FedSession}
 use Rattle.script.specs.Bytes.{startSession, ValidSession, Took, Finished}
-use Rattle.script.specs.Reads.{started, fed}
+use Rattle.script.specs.Reads.{Reads, started, fed}
 use Rattle.script.proofs.Program.{reads-valid, took-within, finished-within}
 use Rattle.io.specs.Counts.{clamped}
 use Rattle.ringctl.specs.declared.Turn.{Turn}
 use Rattle.ringctl.specs.declared.Next.the-variants.{Read, Stop, ReadFailed, WriteFailed}
-use Rattle.ringctl.specs.Turn.{below0, Taken, Answered, TookIn, ReadOnce, Reached}
+use Rattle.ringctl.specs.Turn.{below0, readBytes, InputTaken, ReadTaken, TookIn, ReadOnce, Reached}
 
 -- a number below 0, by the machine's test
 pub below0-is : (z : ℤ) → ltZ z (pos 0) ≡ below0 z
@@ -66,7 +66,7 @@ module _ (s : Session) (bytes l l′ : List ℕ) (one : answerRoom ≤ length l)
         within = took-within q (omega (arith, length-take count bytes));
       }
     where
-      go : (chunk : List ℕ) → take count bytes ≡ chunk → Took s chunk l l′ r → Taken s chunk l l′ (record { session = r .session; wrote = r .wrote; next = Read })
+      go : (chunk : List ℕ) → take count bytes ≡ chunk → Took s chunk l l′ r → InputTaken s chunk l l′ (record { session = r .session; wrote = r .wrote; next = Read })
       go [] i q = absurd (n (lent-counted bytes count w ∙ rw i))
       go (x ∷ chunk) i q = record { next = refl; took = q }
   take-fed (negsuc k) y z b g e f count h c w r n q = absurd (never (sym (rw (f, g) at e)))
@@ -81,14 +81,16 @@ pub reached-valid : (s : Session) → Reached s → ValidSession s
 reached-valid s r = reads-valid (r .reads)
 
 -- after a read that is not the last
-more : (s : Session) (l l′ : List ℕ) (t : Turn) → Reached s → t .next ≡ Read → (got : ℤ) (bytes : List ℕ) → answerRoom * length bytes ≤ length l
-    → Answered s got bytes l l′ t → Reached (t .session)
+more : (s : Session) (l l′ : List ℕ) (t : Turn) {input output : List ℕ} → Reads input output s → t .next ≡ Read → (got : ℤ) (bytes : List ℕ)
+    → answerRoom * length bytes ≤ length l → ReadTaken s got bytes l l′ t
+    → Reads (input ++ readBytes got bytes) (output ++ take (t .wrote) l′) (t .session)
 more s l l′ t r n (negsuc k) bytes room q = let y : _≡_ {A = ℕ} 0 1 = cc in absurd (omega arith)
-more s l l′ t r n (pos k) bytes room q = go (take k bytes) (omega (arith, length-take k bytes)) q
+more s l l′ t {input} {output} r n (pos k) bytes room q = go (take k bytes) (omega (arith, length-take k bytes)) q
   where
-    go : (chunk : List ℕ) → answerRoom * length chunk ≤ length l → Taken s chunk l l′ t → Reached (t .session)
+    go : (chunk : List ℕ) → answerRoom * length chunk ≤ length l → InputTaken s chunk l l′ t
+        → Reads (input ++ chunk) (output ++ take (t .wrote) l′) (t .session)
     go [] h q = let y : _≡_ {A = ℕ} 0 1 = cc in absurd (omega arith)
-    go (x ∷ chunk) h q = record { input = _; output = _; reads = fed {chunk = x ∷ chunk} {l = l} (r .reads) h (q .took) }
+    go (x ∷ chunk) h q = fed {chunk = x ∷ chunk} {l = l} r h (q .took)
 
 -- what was taken in is written out
 module _ (s : Session) (got : ℤ) (bytes l l′ : List ℕ) (t : Turn) (q : TookIn s got bytes l l′ t) where
@@ -98,12 +100,11 @@ module _ (s : Session) (got : ℤ) (bytes l l′ : List ℕ) (t : Turn) (q : Too
   pub turn-counted : t .wrote ≡ length (take (t .wrote) l′)
   turn-counted = lent-counted l′ (t .wrote) (q .within)
 
-  pub turn-written : Reached s → ReadOnce s l l′ t
-  turn-written r =
-      record { got = got; bytes = bytes; turn = t; took = q; taken = true; is = refl; reached = λ n. more s l l′ t r n got bytes (q .room) (q .is) }
+  pub turn-written : ReadOnce s l l′ t
+  turn-written = record { got = got; bytes = bytes; turn = t; took = q; taken = true; is = refl; goesOn = λ r n. more s l l′ t r n got bytes (q .room) (q .is) }
 
-  pub turn-unwritten : Reached s → ReadOnce s l l′ (record { session = t .session; wrote = t .wrote; next = WriteFailed })
-  turn-unwritten r =
+  pub turn-unwritten : ReadOnce s l l′ (record { session = t .session; wrote = t .wrote; next = WriteFailed })
+  turn-unwritten =
       record {
         got = got;
         bytes = bytes;
@@ -111,13 +112,13 @@ module _ (s : Session) (got : ℤ) (bytes l l′ : List ℕ) (t : Turn) (q : Too
         took = q;
         taken = false;
         is = refl;
-        reached = λ n. let y : _≡_ {A = ℕ} 0 1 = cc in absurd (omega arith);
+        goesOn = λ r n. let y : _≡_ {A = ℕ} 0 1 = cc in absurd (omega arith);
       }
 
 pub ruleset writing = (reached-valid, turn-within, turn-counted, turn-written, turn-unwritten)
 
 -- where the program goes on, it has read so much more
-pub reached-more : (s : Session) (l l′ : List ℕ) (r : Turn) → ReadOnce s l l′ r → r .next ≡ Read → Reached (r .session)
-reached-more s l l′ r q n = q .reached n
+pub reached-more : (s : Session) (l l′ : List ℕ) (r : Turn) → Reached s → ReadOnce s l l′ r → r .next ≡ Read → Reached (r .session)
+reached-more s l l′ r h q n = record { input = _; output = _; reads = q .goesOn (h .reads) n }
 
 pub ruleset turns = (reached-start, reached-more)

@@ -1,10 +1,9 @@
--- What the program does with what a read answered. Assumes nothing.
--- What the program keeps: where a read fails it runs nothing, and else it writes what the bytes read print. What C's read and write did, no
--- contract says. Serves proofs inside only.
+-- What the program does with what a read answered: where a read fails it runs nothing, and else it writes what the bytes read print. What C's
+-- read and write did, no contract says. Assumes nothing. What each turn of `ringctl` keeps to.
 use Prim.Native.Nat.{ℕ, _*_, _≤_}
 use mathlib.Core.Path.{_≡_}
 use mathlib.Core.Bool.{Bool, true, false}
-use mathlib.Core.List.{List, [], _∷_}
+use mathlib.Core.List.{List, [], _∷_, _++_}
 use lib.IntN.{ℤ, pos, negsuc}
 use lib.ListN.{length, take}
 use Rattle.desk.specs.Desk.{answerRoom}
@@ -31,32 +30,37 @@ pub record Failed (s : Session) (l l′ : List ℕ) (t : Turn) : Type 0 where
   pub lent : l′ ≡ l
 
 -- the input has ended: what its end prints is to be written
-pub record Ended (s : Session) (l l′ : List ℕ) (t : Turn) : Type 0 where
+pub record InputEnded (s : Session) (l l′ : List ℕ) (t : Turn) : Type 0 where
   pub next : t .next ≡ Stop
   pub finished : Finished s l l′ (t .wrote)
 
 -- bytes were read and taken in: what they print is to be written
-pub record Fed (s : Session) (chunk l l′ : List ℕ) (t : Turn) : Type 0 where
+pub record InputFed (s : Session) (chunk l l′ : List ℕ) (t : Turn) : Type 0 where
   pub next : t .next ≡ Read
   pub took : Took s chunk l l′ (record { session = t .session; wrote = t .wrote })
 
 -- by the bytes read: where there are none the input has ended
-abbrev pub Taken : Session → List ℕ → List ℕ → List ℕ → Turn → Type 0
-Taken s [] l l′ t = Ended s l l′ t
-Taken s (x ∷ chunk) l l′ t = Fed s (x ∷ chunk) l l′ t
+abbrev pub InputTaken : Session → List ℕ → List ℕ → List ℕ → Turn → Type 0
+InputTaken s [] l l′ t = InputEnded s l l′ t
+InputTaken s (x ∷ chunk) l l′ t = InputFed s (x ∷ chunk) l l′ t
 
--- by the answer of a read, which is a count of bytes at the start of its buffer, or below 0 where it failed
-abbrev pub Answered : Session → ℤ → List ℕ → List ℕ → List ℕ → Turn → Type 0
-Answered s (pos k) bytes l l′ t = Taken s (take k bytes) l l′ t
-Answered s (negsuc k) bytes l l′ t = Failed s l l′ t
+-- the bytes read, by the answer of a read: a count of bytes at the start of its buffer, or below 0 where it failed
+abbrev pub readBytes : ℤ → List ℕ → List ℕ
+readBytes (pos k) bytes = take k bytes
+readBytes (negsuc k) bytes = []
+
+-- and what became of them
+abbrev pub ReadTaken : Session → ℤ → List ℕ → List ℕ → List ℕ → Turn → Type 0
+ReadTaken s (pos k) bytes l l′ t = InputTaken s (readBytes (pos k) bytes) l l′ t
+ReadTaken s (negsuc k) bytes l l′ t = Failed s l l′ t
 
 -- so it was taken in; the lent bytes had room for the answers, and hold them
 pub record TookIn (s : Session) (got : ℤ) (bytes l l′ : List ℕ) (t : Turn) : Type 0 where
-  pub is : Answered s got bytes l l′ t
+  pub is : ReadTaken s got bytes l l′ t
   pub room : answerRoom * length bytes ≤ length l
   pub within : t .wrote ≤ length l′
 
--- the session is one that `start` and some `feed`s lead to; which bytes they took in, and what they wrote, is left open
+-- the session is one that `start` and some `feed`s lead to
 pub record Reached (s : Session) : Type 0 where
   pub input : List ℕ
   pub output : List ℕ
@@ -67,7 +71,7 @@ abbrev pub handed : Bool → Turn → Turn
 handed true t = t
 handed false t = record { session = t .session; wrote = t .wrote; next = WriteFailed }
 
--- one read: of some answer, and some bytes in its buffer, that were taken in and answered; where the program goes on, it has read so much more
+-- one read: of some answer, and some bytes in its buffer, that were taken in and answered
 pub record ReadOnce (s : Session) (l l′ : List ℕ) (r : Turn) : Type 0 where
   pub got : ℤ
   pub bytes : List ℕ
@@ -75,4 +79,7 @@ pub record ReadOnce (s : Session) (l l′ : List ℕ) (r : Turn) : Type 0 where
   pub took : TookIn s got bytes l l′ turn
   pub taken : Bool
   pub is : r ≡ handed taken turn
-  pub reached : r .next ≡ Read → Reached (r .session)
+  -- where the program goes on, it has taken in the bytes read after those before, and the answers at the start of the lent bytes come after
+  -- those before
+  pub goesOn : {input output : List ℕ} → Reads input output s → r .next ≡ Read
+      → Reads (input ++ readBytes got bytes) (output ++ take (r .wrote) l′) (r .session)

@@ -1,5 +1,2 @@
--- The laws of the planner's program: forms as words, lines, the script's among them, and bytes as they come.
-pub mod Forms
-pub mod Lines
-pub mod Script
+-- The laws of the planner's program: bytes as they come.
 pub mod Feeding

@@ -1,2 +1,2 @@
--- What the planner's program keeps to: a line, and the bytes as they come.
+-- What the planner's program keeps to between two reads.
 pub mod Plan

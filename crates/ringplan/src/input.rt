@@ -3,14 +3,15 @@
 ghost use mathlib.Core.Path.{_≡_};
 ghost use Prim.Native.Nat.{_≤_};
 ghost use lib.ListN.{length};
-ghost use Rattle.ringplan.specs.Plan.{lineRoom, Sound, Roomy, startHeld};
-use crate::line;
+ghost use Rattle.answer_room.specs.Room.{lineRoom};
+ghost use Rattle.ringplan.specs.Plan.{BetweenReads, SpillRoom, startHeld};
+use commands::LONGEST_COMMAND;
 use desk::Desk;
 use libc::STDOUT_FILENO;
 use ring::RingTable;
 
-// The most bytes that a line's answer takes.
-const LINE_ROOM: usize = 99715;
+// A line's bytes, and one more by which a line is seen to be too long.
+pub const HELD_ROOM: usize = LONGEST_COMMAND + 1;
 
 // The desk, and how many bytes of a line are held.
 pub struct Held {
@@ -19,7 +20,7 @@ pub struct Held {
 }
 
 // What is held after some bytes, and whether every answer was written.
-pub struct Fed {
+pub struct Intake {
     pub held: Held,
     pub wrote: bool,
 }
@@ -46,9 +47,9 @@ enum Spilled {
 // Makes room for an answer after position `at`.
 fn spill(out: &[u8], at: usize) -> Spilled
     requires { ⌜ (at ≤ length (now out)) × (lineRoom ≤ length (now out)) ⌝ }
-    ensures { λ r. ⌜ Roomy (now (out .entry)) r ⌝ }
+    ensures { λ r. ⌜ SpillRoom (now (out .entry)) r ⌝ }
 {
-    if LINE_ROOM <= out.len() - at {
+    if answer_room::has_room(out.len() - at) {
         return Spilled::At(at);
     }
     if io::write_all(STDOUT_FILENO, &out[..at]) {
@@ -58,9 +59,9 @@ fn spill(out: &[u8], at: usize) -> Spilled
 }
 
 // Takes bytes in, runs the lines that end and writes their answers.
-pub fn feed(held: Held, line: &mut [u8], chunk: &[u8], out: &mut [u8]) -> Fed
-    requires { ⌜ Sound held (now line) (now out) ⌝ }
-    ensures { λ r. ⌜ Sound (r .held) (now (line .exit)) (now (out .exit)) ⌝ }
+pub fn feed(held: Held, line: &mut [u8], chunk: &[u8], out: &mut [u8]) -> Intake
+    requires { ⌜ BetweenReads held (now line) (now out) ⌝ }
+    ensures { λ r. ⌜ BetweenReads (r .held) (now (line .exit)) (now (out .exit)) ⌝ }
 {
     let mut desk = held.desk;
     let mut count = held.count;
@@ -70,7 +71,7 @@ pub fn feed(held: Held, line: &mut [u8], chunk: &[u8], out: &mut [u8]) -> Fed
         let byte = chunk[i];
         i += 1;
         if byte == b'\n' {
-            let ran = line::run_line(desk, &line[..count], out, at);
+            let ran = planner::run_line(desk, &line[..count], out, at);
             desk = ran.desk;
             count = 0;
             match spill(out, ran.next) {
@@ -79,21 +80,21 @@ pub fn feed(held: Held, line: &mut [u8], chunk: &[u8], out: &mut [u8]) -> Fed
                     continue;
                 }
                 Spilled::Failed => {
-                    return Fed {
+                    return Intake {
                         held: Held { desk, count },
                         wrote: false,
                     };
                 }
             }
         }
-        if count < 8193 {
+        if count < HELD_ROOM {
             line[count] = byte;
             count += 1;
             continue;
         }
     }
     let wrote = io::write_all(STDOUT_FILENO, &out[..at]);
-    Fed {
+    Intake {
         held: Held { desk, count },
         wrote,
     }

@@ -1,15 +1,21 @@
 // The planner's program: it runs lines from standard input and writes the answers to standard output.
-mod ask;
 mod input;
-mod line;
-mod saved;
 
 ghost use Prim.Native.Nat.{_≤_};
 ghost use lib.ListN.{length};
-ghost use Rattle.ringplan.specs.Plan.{heldRoom, lineRoom, Sound};
+ghost use Rattle.answer_room.specs.Room.{lineRoom};
+ghost use Rattle.ringplan.specs.Plan.{heldRoom, BetweenReads};
+use answer_room::LINE_ROOM;
+use input::HELD_ROOM;
 use input::Held;
 use libc::STDERR_FILENO;
 use libc::STDIN_FILENO;
+
+// The bytes that answers are collected in: room for one of the most bytes and others before it.
+const OUT_ROOM: usize = 2 * LINE_ROOM;
+
+// The bytes of one read at most.
+const READ_SIZE: usize = 1024;
 
 // What is to be done after a read.
 enum Next {
@@ -26,10 +32,10 @@ struct Turn {
 
 // Reads once, runs the lines that ended and writes their answers. The input ends where there is nothing to read.
 fn read_once(held: Held, line: &mut [u8], out: &mut [u8]) -> Turn
-    requires { ⌜ Sound held (now line) (now out) ⌝ }
-    ensures { λ r. ⌜ Sound (r .held) (now (line .exit)) (now (out .exit)) ⌝ }
+    requires { ⌜ BetweenReads held (now line) (now out) ⌝ }
+    ensures { λ r. ⌜ BetweenReads (r .held) (now (line .exit)) (now (out .exit)) ⌝ }
 {
-    let mut buffer = [0u8; 1024];
+    let mut buffer = [0u8; READ_SIZE];
     let got = libc::read(STDIN_FILENO, &mut buffer);
     if got < 0 {
         io::write_all(STDERR_FILENO, b"ringplan: read failed\n");
@@ -62,7 +68,7 @@ fn read_once(held: Held, line: &mut [u8], out: &mut [u8]) -> Turn
 
 // Runs what is left when the input has ended.
 fn finish(held: Held, line: &mut [u8], out: &mut [u8])
-    requires { ⌜ Sound held (now line) (now out) ⌝ }
+    requires { ⌜ BetweenReads held (now line) (now out) ⌝ }
 {
     if held.count == 0 {
         return;
@@ -98,9 +104,8 @@ fn run(line: &mut [u8], out: &mut [u8])
     }
 }
 
-// The lent bytes have room for a line and one byte more, and for an answer of the most bytes and others before it.
 fn main() {
-    let mut line = [0u8; 8193];
-    let mut out = [0u8; 196608];
+    let mut line = [0u8; HELD_ROOM];
+    let mut out = [0u8; OUT_ROOM];
     run(&mut line, &mut out);
 }

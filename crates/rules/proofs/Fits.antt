@@ -88,4 +88,4 @@ rules-links N ks t rules q l low high = near (decLt q placeCount)
   where
     near : Dec (q < placeCount) → carried N t q l ≤ 1
     near (yes i) = fits-links N q (at t q) l (rules .places q i) low high
-    near (no n) = let k = limits-hold N ks t rules in rw (none-there t q (omega arith)) (fits-links N q unlit l refl low high)
+    near (no n) = rw (← none-there t placeCount q (limits-hold N ks t rules .long) (omega arith)) (fits-links N q unlit l refl low high)

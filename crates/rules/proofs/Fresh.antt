@@ -16,6 +16,7 @@ use Rattle.channels.specs.Channels.{unlitChannel, unlitChannels, at}
 use Rattle.ports.specs.Ports.{eachAtMost}
 use Rattle.ports.proofs.Counts.{each-zeros}
 use Rattle.rules.proofs.Rules.{Rules}
+use Rattle.rules.proofs.Unlit.{unlit-above}
 
 -- no place is lit
 blank-unlit : (p : ℕ) → p < placeCount → at unlitChannels p ≡ unlit
@@ -29,7 +30,7 @@ fresh-rules N ks three most long each sum = record {
       and-both _ _ (and-both _ _ (and-both _ _ (le-leb leastNodes N three) (le-leb N mostNodes most)) (each-zeros mostPorts ks (portFields - length ks) ∙ each))
       (le-leb (total (ks ++ zeros)) mostTotal (omega (arith, total-padded ks (portFields - length ks))));
   sizes = and-both _ _ (eq-eqb (length (ks ++ zeros)) portFields (omega (arith, length-append ks zeros, length-replicate {A = ℕ} (portFields - length ks) 0))) refl;
-  unused = λ p l k. rw (blank-unlit p l);
+  unused = unlit-above _ unlitChannels (λ p l k. blank-unlit p l);
   places = λ p l. rw (blank-unlit p l);
   numbers = refl;
   ports = λ j l. (zero-le, zero-le);

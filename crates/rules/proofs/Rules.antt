@@ -1,25 +1,22 @@
 -- The ring rules as facts, from the test and back. Assumes nothing.
 use Prim.Native.Nat.{ℕ, zero, suc, _+_, _≤_, _<_, suc-le-suc}
-use mathlib.Core.Path.{_≡_, refl, sym, ap, _∙_}
-use mathlib.Core.Bool.{true, false, not}
+use mathlib.Core.Path.{_≡_, refl}
+use mathlib.Core.Bool.{true}
 use mathlib.Core.List.{List, [], _∷_}
 use native.Mathlib.Nat.{le-of-suc-le-suc, not-suc-le-zero}
 use native.Mathlib.Omega.{arith}
 use lib.Dec.{eqb}
 use lib.ListN.{length, getD}
-use borrow.Author.Tests.{eqb-true, leb-true, le-leb, not-true}
+use borrow.Author.Tests.{eqb-true, leb-true, le-leb}
 use Rattle.basis.specs.Count.{total, distinct}
 use Rattle.basis.proofs.Bools.{and-left, and-right, and-both}
 use Rattle.basis.proofs.Search.{every-at, at-every}
 use Rattle.limits.specs.Limits.{placeCount, leastNodes, mostNodes, portFields, mostTotal}
 use Rattle.lightpath.specs.declared.Circuit.{Circuit}
-use Rattle.slots.specs.Slot.{isUnlit}
-use Rattle.lit_words.proofs.NoneLit.{none-lit-at, at-none-lit}
-use Rattle.channels.specs.Channels.{Channels, at, litAt, circuits}
-use Rattle.channels.proofs.LitPlaces.{unlit-not}
+use Rattle.channels.specs.Channels.{Channels, at, circuits}
 use Rattle.ports.specs.Ports.{limitOf, limits, spareZero}
 use Rattle.ports_used.specs.PortsUsed.{sends, receives}
-use Rattle.rules.specs.Rules.{sized, ends, portsHold, shares, fits, ringRules}
+use Rattle.rules.specs.Rules.{sized, unlitFrom, ends, portsHold, shares, fits, ringRules}
 
 -- no node sends or receives more than its port count; node 1 has the first
 abbrev pub PortsHold : List ℕ → List Circuit → Type 0
@@ -48,7 +45,7 @@ from-ports i (k ∷ ks) cs h =
 pub record Rules (N : ℕ) (ks : List ℕ) (t : Channels) : Type 0 where
   pub bounds : limits N ks ≡ true
   pub sizes : sized ks t ≡ true
-  pub unused : (p : ℕ) → p < placeCount → limitOf ks ≤ p → isUnlit (at t p) ≡ true
+  pub unused : unlitFrom (limitOf ks) t ≡ true
   pub places : (p : ℕ) → p < placeCount → fits N p (at t p) ≡ true
   pub numbers : distinct (λ c. c .number) (circuits t) ≡ true
   pub ports : PortsHold ks (circuits t)
@@ -60,7 +57,7 @@ module _ (N : ℕ) (ks : List ℕ) (t : Channels) where
   rules-hold h = record {
     bounds = search (and-left, and-right) depth 8;
     sizes = search (and-left, and-right) depth 8;
-    unused = λ p l k. sym (unlit-not (at t p)) ∙ ap not (none-lit-at (limitOf ks) (litAt t) (search (and-left, and-right) depth 8) p l k);
+    unused = search (and-left, and-right) depth 8;
     places =
         λ p l. and-both _ _ (every-at placeCount (λ p. ends N (at t p)) (search (and-left, and-right) depth 8) p l)
         (every-at placeCount (λ p. shares N p (at t p)) (search (and-left, and-right) depth 8) p l);
@@ -76,15 +73,12 @@ module _ (N : ℕ) (ks : List ℕ) (t : Channels) where
       (and-both _ _
       (and-both _ _
       (and-both _ _
-      (and-both _ _ (and-both _ _ (and-both _ _ (r .bounds) (r .sizes)) (at-none-lit (limitOf ks) (litAt t) unused))
+      (and-both _ _ (and-both _ _ (and-both _ _ (r .bounds) (r .sizes)) (r .unused))
       (at-every placeCount (λ p. ends N (at t p)) (λ p l. and-left _ _ (r .places p l))))
       (r .numbers))
       (from-ports 1 ks (circuits t) (λ j l. let e : 1 + j ≡ suc j = omega arith in rw e (r .ports j l))))
       (at-every placeCount (λ p. shares N p (at t p)) (λ p l. and-right (ends N (at t p)) _ (r .places p l))))
       (r .spare)
-    where
-      unused : (p : ℕ) → p < placeCount → limitOf ks ≤ p → litAt t p ≡ false
-      unused p l k = not-true (litAt t p) (unlit-not (at t p) ∙ r .unused p l k)
 
 -- the numbers that the rules bound
 pub record Limits (N : ℕ) (ks : List ℕ) (t : Channels) : Type 0 where

@@ -12,7 +12,7 @@ use Rattle.buffer.proofs.Put.{put-none, put-put, put-length}
 use Rattle.buffer.specs.Put.{Printed}
 use Rattle.script.specs.Bytes.{Script, Session, Fed, after, texts, mostHeld, startSession, scriptOf, ValidSession, Took, Finished}
 use Rattle.script.proofs.Cuts.{after-more, texts-more}
-use Rattle.desk.specs.Desk.{KeepsRules, runLine, answerRoom, Runs, Ended}
+use Rattle.desk.specs.Desk.{KeepsRules, runLine, answerRoom, CanRun, HasRun}
 use Rattle.desk.specs.declared.Desk.{Desk}
 use Rattle.desk.specs.declared.Ran.{Ran}
 
@@ -48,11 +48,11 @@ module _ (s : Script) (chunk l0 : List ℕ) (d : Desk) (line : List ℕ) (held :
   feed-long = put-length (q .text .put)
 
   module _ (h : i < length chunk) where
-    pub feed-runs : Runs d l at
+    pub feed-runs : CanRun d l at
     feed-runs = record { rules = q .rules; room = omega (arith, q .text .short, q .space, put-length (q .text .put)) }
 
     -- a line end
-    pub feed-line : (l1 : List ℕ) (r : Ran) → getD chunk i 0 ≡ 10 → Ended (runLine d (take held line)) l at l1 r
+    pub feed-line : (l1 : List ℕ) (r : Ran) → getD chunk i 0 ≡ 10 → HasRun (runLine d (take held line)) l at l1 r
         → Feeding s chunk l0 (r .desk) line 0 l1 (r .next) (i + 1)
     feed-line l1 r e m =
         record {

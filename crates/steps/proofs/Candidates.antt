@@ -17,7 +17,8 @@ use Rattle.channels.specs.Channels.{Channels}
 use Rattle.channels.specs.Nonsharing.{nonsharing}
 use Rattle.channels.specs.declared.Standing.{Standing}
 use Rattle.channels.proofs.Nonsharing.{Stands, Lower, nonsharing-stand, nonsharing-rise}
-use Rattle.steps.specs.Steps.{joinPlace, nowhere, newcomer, candidates, passed, foundPair, standsRight, Ready}
+use Rattle.steps.specs.Steps.{joinPlace, nowhere, newcomer, candidates, passed, foundPair, standsRight}
+use Rattle.steps.specs.Ready.{Ready}
 use Rattle.steps.proofs.Searches.{none-joins}
 
 -- a candidate is a nonsharing circuit at its place, or the new one

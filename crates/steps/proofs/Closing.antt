@@ -1,29 +1,27 @@
 -- "Closing takes the circuit off and moves none": exactly that circuit goes, every other place is as it was, and the ring rules are met
 -- again. Assumes nothing.
 use Prim.Native.Nat.{ℕ, _<_}
-use mathlib.Core.Path.{_≡_, refl, sym}
+use mathlib.Core.Path.{_≡_, refl}
 use mathlib.Core.Logic.{_≢_, inl}
-use mathlib.Core.Bool.{true, true≢false}
+use mathlib.Core.Bool.{true}
 use mathlib.Core.List.{List, [], _∷_}
-use native.Mathlib.Decide.{decLt}
 use native.Mathlib.Omega.{arith}
 use Rattle.basis.specs.Count.{weigh, All}
 use Rattle.basis.proofs.Bools.{all-map}
 use Rattle.basis.proofs.Weigh.{counted}
+use Rattle.limits.specs.Limits.{placeCount}
 use Rattle.lightpath.specs.declared.Circuit.{Circuit}
-use Rattle.slots.specs.Slot.{held, isUnlit, without}
-use Rattle.slots.specs.declared.Slot.{Slot}
-use Rattle.slots.specs.declared.Slot.the-variants.{Unlit as unlit, Alone as alone, Shared as shared}
-use Rattle.channels.specs.Channels.{Channels, at, numbered, live, whereIs, circuitOf}
+use Rattle.slots.specs.Slot.{held, without}
+use Rattle.slots.proofs.Contents.{ofNumber, Parted, parted}
+use Rattle.channels.specs.Channels.{Channels, at, live, whereIs, circuitOf}
 use Rattle.channels.specs.Closing.{closing, closed}
 use Rattle.channels.specs.declared.Standing.{Standing}
 use Rattle.channels.proofs.Puts.{puts-there}
-use Rattle.channels.proofs.Numbers.{ofNumber, Parted, parted, found-there, live-placed}
-use Rattle.ports.specs.Ports.{limitOf}
+use Rattle.channels.proofs.Numbers.{found-there, live-placed}
 use Rattle.rules.proofs.Rules.{Rules, limits-hold}
 use Rattle.rules.proofs.Fits.{without-fits}
 use Rattle.steps.specs.Kept.{Kept}
-use Rattle.steps.proofs.Sound.{Gets, Has, Sound, keeps, stays-above}
+use Rattle.steps.proofs.Sound.{Gets, Has, Sound, keeps}
 
 -- circuits that stand at one place
 abbrev standing : ℕ → List Circuit → List Standing
@@ -42,25 +40,12 @@ standing-all P q (x ∷ xs) h = (h .0, standing-all P q xs (h .1))
 
 module _ (N : ℕ) (ks : List ℕ) (t : Channels) (rules : Rules N ks t) (n : ℕ) (l : live t n ≡ true) where
   -- the circuit has a place
-  placed : whereIs t n < 128
+  placed : whereIs t n < placeCount
   placed = live-placed t n (limits-hold N ks t rules .long) l
 
   -- which holds it and what is left without it
   split : Parted n (at t (whereIs t n))
   split = parted n (at t (whereIs t n)) (found-there t n placed)
-
-  -- and is usable, since the others are unlit
-  usable : whereIs t n < limitOf ks
-  usable = go (decLt (whereIs t n) (limitOf ks))
-    where
-      empty : (s : Slot) → isUnlit s ≡ true → numbered n (held s) ≡ 0
-      empty unlit e = refl
-      empty (alone a) e = absurd (true≢false (sym e))
-      empty (shared a b) e = absurd (true≢false (sym e))
-
-      go : Dec (whereIs t n < limitOf ks) → whereIs t n < limitOf ks
-      go (yes h) = h
-      go (no h) = absurd (omega (arith, found-there t n placed, empty (at t (whereIs t n)) (rules .unused (whereIs t n) placed (omega arith))))
 
   -- those left at the place
   abbrev left : List Circuit
@@ -85,7 +70,7 @@ module _ (N : ℕ) (ks : List ℕ) (t : Channels) (rules : Rules N ks t) (n : �
   pub closes : Kept N ks t (circuitOf t n ∷ []) [] (closed t n) []
   closes =
       keeps N ks t (circuitOf t n ∷ []) [] (closing t n) (standing (whereIs t n) left) [] rules (rules .numbers) (rules .ports) sound
-      (stays-above (limitOf ks) (closing t n) t (usable, tt))
+      (λ h e. rw e, tt)
 
 -- every other place is as it was
 pub close-there : (t : Channels) (n q : ℕ) → q ≢ whereIs t n → at (closed t n) q ≡ at t q

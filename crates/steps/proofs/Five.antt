@@ -1,25 +1,22 @@
 -- The five cases of an opening open it. Assumes nothing.
-use Prim.Native.Nat.{ℕ, _+_, _<_, zero-le}
+use Prim.Native.Nat.{ℕ, _<_, zero-le}
 use mathlib.Core.Path.{_≡_, refl, sym, _∙_}
 use mathlib.Core.Logic.{_≢_, inl, inr}
-use mathlib.Core.Bool.{Bool, true, false}
+use mathlib.Core.Bool.{true}
 use mathlib.Core.List.{List, [], _∷_}
 use native.Mathlib.Omega.{arith}
-use lib.Dec.{ltb}
 use lib.ListN.{length}
-use Rattle.basis.specs.Choice.{pick}
-use Rattle.basis.specs.Count.{weigh}
 use Rattle.basis.proofs.Bools.{bit-eq}
 use Rattle.lightpath.specs.Place.{directionOf}
 use Rattle.lightpath.specs.Circuit.{joins, canShare}
 use Rattle.lightpath.specs.declared.Circuit.{Circuit}
 use Rattle.slots.specs.Slot.{held, together}
-use Rattle.slots.specs.declared.Slot.the-variants.{Unlit as unlit, Alone as alone, Shared as shared}
+use Rattle.slots.specs.declared.Slot.the-variants.{Unlit as unlit, Alone as alone}
+use Rattle.slots.proofs.Contents.{ofNumber, together-weighs}
 use Rattle.channels.specs.Channels.{Channels, at, numbered}
 use Rattle.channels.specs.Change.{puts}
 use Rattle.channels.specs.declared.Standing.{Standing}
 use Rattle.channels.proofs.Places.{weigh-place}
-use Rattle.channels.proofs.Numbers.{ofNumber}
 use Rattle.channels.proofs.Nonsharing.{Stands}
 use Rattle.ports.specs.Ports.{limitOf}
 use Rattle.rules.specs.Rules.{fits}
@@ -27,21 +24,13 @@ use Rattle.rules.proofs.Rules.{Rules, limits-hold}
 use Rattle.rules.proofs.Fits.{alone-fits, alone-joins, together-fits}
 use Rattle.rules.proofs.Allowable.{Allowable}
 use Rattle.steps.specs.Plan.{Plan, joining, lighting, oneMove, twoMoves, threeMoves}
-use Rattle.steps.specs.Kept.{Served}
+use Rattle.steps.specs.Kept.{PlanKeeps}
 use Rattle.steps.proofs.Following.{Known, follow-joining, follow-lighting, follow-one, follow-two, follow-three}
 use Rattle.steps.proofs.Sound.{Inside, has, old-place, serves}
 
 -- a plan that opens c
 abbrev pub Good : ℕ → List ℕ → Channels → Circuit → Plan → Type 0
-Good N ks t c plan = Served N ks t c (puts (plan .changes) t) (plan .taken) (plan .moves)
-
--- two together weigh what both do
-together-weighs : (w : Circuit → ℕ) (a b : Circuit) → weigh w (held (together a b)) ≡ w a + w b
-together-weighs w a b = go (ltb (a .number) (b .number))
-  where
-    go : (o : Bool) → weigh w (held (pick o (shared a b) (shared b a))) ≡ w a + w b
-    go true = omega arith
-    go false = omega arith
+Good N ks t c plan = PlanKeeps N ks t c (puts (plan .changes) t) (plan .taken) (plan .moves)
 
 -- a circuit is in what a place gets: alone, and as either of two
 one : (x : Circuit) → Inside (alone x) x

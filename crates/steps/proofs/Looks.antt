@@ -18,7 +18,8 @@ use Rattle.channels.specs.Nonsharing.{nonsharing, standingAt}
 use Rattle.channels.specs.declared.Standing.{Standing}
 use Rattle.channels.proofs.Nonsharing.{nonsharing-most}
 use Rattle.steps.specs.Plan.{Plan, joining, lighting}
-use Rattle.steps.specs.Steps.{joinPlace, unlitPlace, nowhere, newcomer, candidates, foundPair, looks, standsRight, xOf, rearranging, stepThree, planOf, Ready}
+use Rattle.steps.specs.Steps.{joinPlace, unlitPlace, nowhere, newcomer, candidates, foundPair, looks, standsRight, xOf, rearranging, stepThree, planOf}
+use Rattle.steps.specs.Ready.{Ready}
 
 -- whichever of two plans is taken
 picked : (o : Bool) (x y : Plan) (k : ℕ) → x .looks ≡ k → y .looks ≡ k → pick o x y .looks ≡ k

@@ -15,10 +15,10 @@ use Rattle.lightpath.proofs.Places.{same-direction, direction-same}
 use Rattle.slots.specs.Slot.{isUnlit, isAlone}
 use Rattle.slots.specs.declared.Slot.{Slot}
 use Rattle.slots.specs.declared.Slot.the-variants.{Unlit as unlit}
+use Rattle.slots.proofs.Contents.{is-unlit}
 use Rattle.channels.specs.Channels.{Channels, at}
 use Rattle.channels.specs.Nonsharing.{standingAt}
 use Rattle.channels.specs.declared.Standing.{Standing}
-use Rattle.channels.proofs.Places.{is-unlit}
 use Rattle.channels.proofs.Nonsharing.{Stands, stands-alone}
 use Rattle.steps.specs.Steps.{canJoin, joinPlace, unlitPlace, lowestIn}
 

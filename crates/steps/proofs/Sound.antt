@@ -12,26 +12,31 @@ use Rattle.basis.specs.Choice.{bit}
 use Rattle.basis.specs.Count.{weigh, tally, distinct, All}
 use Rattle.basis.proofs.Bools.{and-false, bit-eq, all-map, all-and}
 use Rattle.basis.proofs.Weigh.{weigh-append, none-weigh, ones-weigh, weigh-zero, counted, distinct-most, most-distinct}
+use Rattle.limits.specs.Limits.{placeCount}
 use Rattle.lightpath.specs.declared.Circuit.{Circuit}
 use Rattle.slots.specs.Slot.{held}
 use Rattle.slots.specs.declared.Slot.{Slot}
+use Rattle.slots.proofs.Contents.{ofNumber}
 use Rattle.channels.specs.Channels.{Channels, at, circuits, numbered, whereIs}
 use Rattle.channels.specs.declared.Change.{Change}
 use Rattle.channels.specs.Change.{puts}
 use Rattle.channels.specs.declared.Standing.{Standing}
 use Rattle.channels.proofs.Places.{weigh-place}
 use Rattle.channels.proofs.Puts.{Apart, Within, Spared, taken, given, puts-length, puts-there, puts-here, puts-every, puts-weigh, part, part-with, whole}
-use Rattle.channels.proofs.Numbers.{ofNumber, stands-at, dead-nowhere}
+use Rattle.channels.proofs.Numbers.{stands-at, dead-nowhere}
 use Rattle.channels.proofs.Nonsharing.{Stands}
 use Rattle.moves.specs.declared.Move.{Move}
+use Rattle.moves.specs.Records.{mostMoves}
 use Rattle.ports.specs.Ports.{limitOf}
 use Rattle.rules.specs.Rules.{fits}
 use Rattle.rules.proofs.Rules.{PortsHold, Rules, rules-test, limits-hold}
+use Rattle.rules.proofs.Unlit.{Dark, unlit-puts}
 use Rattle.rules.proofs.Fits.{rules-links}
 use Rattle.rules.proofs.Allowable.{Allowable, ports-more, numbers-more}
 use Rattle.steps.specs.Plan.{movesTo}
 use Rattle.steps.specs.Following.{followed}
-use Rattle.steps.specs.Kept.{moved, Names, Kept, Served}
+use Rattle.steps.specs.Kept.{Kept, PlanKeeps}
+use Rattle.steps.specs.Moved.{moved, Names}
 
 -- an old circuit that goes to another place
 pub record Shift : Type 0 where
@@ -52,7 +57,7 @@ Gets [] p x = ⊥
 Gets (ch ∷ chs) p x = ((p ≡ ch .place) × Inside (ch .slot) x) ⊎ Gets chs p x
 
 abbrev pub Has : Channels → ℕ → Circuit → Type 0
-Has t p x = (p < 128) × Inside (at t p) x
+Has t p x = (p < placeCount) × Inside (at t p) x
 
 -- the weight of the old circuits of the changed places: those that stay, and those that go elsewhere
 abbrev pub olds : (Circuit → ℕ) → List Standing → List Shift → ℕ
@@ -108,9 +113,9 @@ module _ (N : ℕ) (ks : List ℕ) (t : Channels) (rules : Rules N ks t) where
 -- where the new ones' numbers are new and their ports free, all is kept
 module _ (N : ℕ) (ks : List ℕ) (t : Channels) (gone new : List Circuit) (chs : List Change) (stay : List Standing) (go : List Shift) (rules : Rules N ks t)
     (numbers : distinct (λ c. c .number) (new ++ circuits t) ≡ true) (ports : PortsHold ks (new ++ circuits t)) (s : Sound N t gone new chs stay go)
-    (above : (q : ℕ) → limitOf ks ≤ q → at (puts chs t) q ≡ at t q) where
+    (dark : Dark (limitOf ks) t chs) where
   -- there are 128 places
-  long : length t ≡ 128
+  long : length t ≡ placeCount
   long = limits-hold N ks t rules .long
 
   -- exactly the circuits gone go, and the new ones come
@@ -126,7 +131,7 @@ module _ (N : ℕ) (ks : List ℕ) (t : Channels) (gone new : List Circuit) (chs
   again = record {
     bounds = rules .bounds;
     sizes = rw (puts-length chs t) (rules .sizes);
-    unused = λ q l h. rw (above q h) (rules .unused q l h);
+    unused = unlit-puts (limitOf ks) t chs long (s .within) dark (rules .unused);
     places =
         λ q l. puts-every (λ q s. fits N q s ≡ true) chs t (s .within) (λ q l n. rules .places q (omega (arith, long))) (s .fit) q
         (omega (arith, long));
@@ -157,11 +162,11 @@ module _ (N : ℕ) (ks : List ℕ) (t : Channels) (gone new : List Circuit) (chs
 
   -- one at the same place before and after has not moved
   has-stayed : (q : ℕ) (x : Circuit) → Has t q x → Has (puts chs t) q x → bit (moved t (puts chs t) x) ≡ 0
-  has-stayed q x old now = rw (old-place N ks t rules q x old, new-place q x now, eq-eqb q q refl, and-false (ltb q 128))
+  has-stayed q x old now = rw (old-place N ks t rules q x old, new-place q x now, eq-eqb q q refl, and-false (ltb q placeCount))
 
   -- one at two places has
   has-moved : (q r : ℕ) (x : Circuit) → Has t q x → Has (puts chs t) r x → q ≢ r → bit (moved t (puts chs t) x) ≡ 1
-  has-moved q r x old now n = rw (old-place N ks t rules q x old, new-place r x now, lt-ltb r 128 (now .0), ne-eqb q r n)
+  has-moved q r x old now n = rw (old-place N ks t rules q x old, new-place r x now, lt-ltb r placeCount (now .0), ne-eqb q r n)
 
   -- one that has gone has no place, and so has not
   has-gone : (x : Circuit) → 0 < numbered (x .number) gone → bit (moved t (puts chs t) x) ≡ 0
@@ -171,7 +176,7 @@ module _ (N : ℕ) (ks : List ℕ) (t : Channels) (gone new : List Circuit) (chs
 
   -- the circuits of a place that is not changed stay
   others : (q : ℕ) → q < length t → Spared chs q → (x : Circuit) → Inside (at t q) x → bit (moved t (puts chs t) x) ≡ 0
-  others q l n x h = let k : q < 128 = rw long at l in has-stayed q x (k, h) (k, rw (puts-there chs t q n) h)
+  others q l n x h = let k : q < placeCount = rw long at l in has-stayed q x (k, h) (k, rw (puts-there chs t q n) h)
 
   -- none of those gone has moved, nor of those that stay
   goners : All (λ x. bit (moved t (puts chs t) x) ≡ 0) gone
@@ -275,19 +280,15 @@ module _ (N : ℕ) (ks : List ℕ) (t : Channels) (gone new : List Circuit) (chs
     links = rules-links N ks (puts chs t) again;
   }
 
--- changes below a limit leave the places above it
-pub stays-above : (m : ℕ) (chs : List Change) (t : Channels) → All (λ ch. ch .place < m) chs → (q : ℕ) → m ≤ q → at (puts chs t) q ≡ at t q
-stays-above m chs t low q h = puts-there chs t q (all-map _ _ (λ ch k e. absurd (omega arith)) chs low)
-
 -- sound changes below the limit that give c to place p open c at p, where the records lead to them
 pub serves : (N : ℕ) (ks : List ℕ) (t : Channels) (c : Circuit) (chs : List Change) (p : ℕ) (stay : List Standing) (go : List Shift)
     → Rules N ks t → Allowable N ks t c → Sound N t [] (c ∷ []) chs stay go → All (λ ch. ch .place < limitOf ks) chs → Gets chs p c
-    → length go ≤ 3 → followed t (shifts go) c p ≡ puts chs t → Served N ks t c (puts chs t) p (shifts go)
+    → length go ≤ mostMoves → followed t (shifts go) c p ≡ puts chs t → PlanKeeps N ks t c (puts chs t) p (shifts go)
 serves N ks t c chs p stay go rules may s low g few follows =
-    let up = stays-above (limitOf ks) chs t low in
+    let dark : Dark (limitOf ks) t chs = all-map _ _ (λ ch k h e. absurd (omega arith)) chs low in
     record {
-      kept = keeps N ks t [] (c ∷ []) chs stay go rules (numbers-more N ks t c rules may) (ports-more N ks t c rules may) s up;
-      placed = placed N ks t [] (c ∷ []) chs stay go rules (numbers-more N ks t c rules may) (ports-more N ks t c rules may) s up p c g;
+      kept = keeps N ks t [] (c ∷ []) chs stay go rules (numbers-more N ks t c rules may) (ports-more N ks t c rules may) s dark;
+      placed = placed N ks t [] (c ∷ []) chs stay go rules (numbers-more N ks t c rules may) (ports-more N ks t c rules may) s dark p c g;
       few = omega (arith, shift-length go);
       follows = follows;
     }

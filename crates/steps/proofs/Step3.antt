@@ -21,7 +21,8 @@ use Rattle.rules.proofs.Allowable.{Allowable}
 use Rattle.rules.proofs.Pair.{pair-exists}
 use Rattle.rules.proofs.Lane.{alone-exists}
 use Rattle.rules.proofs.Full.{table-full}
-use Rattle.steps.specs.Steps.{newcomer, candidates, passed, lowestAlone, Ready}
+use Rattle.steps.specs.Steps.{newcomer, candidates, passed, lowestAlone}
+use Rattle.steps.specs.Ready.{Ready}
 use Rattle.steps.proofs.Searches.{none-unlit, lowest-found}
 
 -- the places of the wavelengths below W are those below 2 × W

@@ -1,30 +1,19 @@
 -- What an opening or a closing keeps, from the places t to the places t′ of a ring of N nodes with the port counts ks. Assumes nothing.
--- `moved` and `Names` stand in what `RingTable::open` promises; `Kept` and `Served` state the laws of opening and closing and serve proofs inside
--- only.
+-- States the laws of opening and closing. Serves proofs inside only.
 use Prim.Native.Nat.{ℕ, _+_, _≤_}
 use mathlib.Core.Path.{_≡_}
-use mathlib.Core.Bool.{Bool, true, _&&_, not}
+use mathlib.Core.Bool.{true}
 use mathlib.Core.List.{List, [], _∷_}
-use lib.Dec.{eqb, ltb}
 use lib.ListN.{length}
 use Rattle.basis.specs.Choice.{bit}
 use Rattle.basis.specs.Count.{weigh, tally, All}
-use Rattle.limits.specs.Limits.{placeCount}
 use Rattle.lightpath.specs.declared.Circuit.{Circuit}
-use Rattle.channels.specs.Channels.{Channels, circuits, live, whereIs}
+use Rattle.channels.specs.Channels.{Channels, circuits, whereIs}
 use Rattle.moves.specs.declared.Move.{Move}
+use Rattle.moves.specs.Records.{mostMoves}
 use Rattle.rules.specs.Rules.{ringRules, carried}
 use Rattle.steps.specs.Following.{followed}
-
--- a circuit of the first table has moved when its place in the second is another; one that is closed has none there and has not moved
-abbrev pub moved : Channels → Channels → Circuit → Bool
-moved t t′ x = ltb (whereIs t′ (x .number)) placeCount && not (eqb (whereIs t (x .number)) (whereIs t′ (x .number)))
-
--- a record names a circuit of the first table, with its place in the first table and in the second
-pub record Names (t t′ : Channels) (m : Move) : Type 0 where
-  pub was : live t (m .number) ≡ true
-  pub old : m .from .0 ≡ whereIs t (m .number)
-  pub now : m .to .0 ≡ whereIs t′ (m .number)
+use Rattle.steps.specs.Moved.{moved, Names}
 
 -- the circuits of the list gone go, those of new come, and the records ms name those that move
 pub record Kept (N : ℕ) (ks : List ℕ) (t : Channels) (gone new : List Circuit) (t′ : Channels) (ms : List Move) : Type 0 where
@@ -42,11 +31,11 @@ pub record Kept (N : ℕ) (ks : List ℕ) (t : Channels) (gone new : List Circui
   pub links : (q l : ℕ) → 1 ≤ l → l ≤ N → carried N t′ q l ≤ 1
 
 -- the circuit c is opened at place p
-pub record Served (N : ℕ) (ks : List ℕ) (t : Channels) (c : Circuit) (t′ : Channels) (p : ℕ) (ms : List Move) : Type 0 where
+pub record PlanKeeps (N : ℕ) (ks : List ℕ) (t : Channels) (c : Circuit) (t′ : Channels) (p : ℕ) (ms : List Move) : Type 0 where
   pub kept : Kept N ks t [] (c ∷ []) t′ ms
   -- the place taken is the new circuit's in the second table
   pub placed : whereIs t′ (c .number) ≡ p
   -- at most three have moved
-  pub few : length ms ≤ 3
+  pub few : length ms ≤ mostMoves
   -- a host that takes the listed circuits down, then sets each up at its new place and the new one at the place taken, has the second table
   pub follows : followed t ms c p ≡ t′

@@ -1,10 +1,10 @@
 -- 01, "Opening a circuit": steps 1 to 3, on the places t below the limit m of a ring of N nodes. Assumes nothing.
 -- What `RingTable::open`, `decide` and `decide_valid` promise.
-use Prim.Native.Nat.{ℕ, suc, _≤_, _<_}
+use Prim.Native.Nat.{ℕ, suc}
 use mathlib.Core.Bool.{Bool, _&&_}
 use mathlib.Core.List.{List, [], _∷_, _++_}
 use lib.Dec.{ltb}
-use lib.ListN.{length, getD}
+use lib.ListN.{getD}
 use Rattle.basis.specs.Choice.{pick}
 use Rattle.basis.specs.Search.{firstBelow, firstPlace, pairsOf}
 use Rattle.limits.specs.Limits.{placeCount}
@@ -97,10 +97,3 @@ planOf N m t c =
     pick (ltb (joinPlace N m t c) m) (joining c (standingAt t (joinPlace N m t c)))
     (pick (ltb (unlitPlace N m t c) m) (lighting c (unlitPlace N m t c))
     (stepThree N m t c))
-
--- the paper's two claims: where neither step 1 nor step 2 finds a place, there is an adjacent pair, and a nonsharing circuit each way round
-pub record Ready (N m : ℕ) (t : Channels) (c : Circuit) : Type 0 where
-  pub nodes : 0 < N
-  pub low : m ≤ placeCount
-  pub pair : m ≤ joinPlace N m t c → m ≤ unlitPlace N m t c → passed m t c < length (pairsOf (candidates m t c))
-  pub lane : m ≤ joinPlace N m t c → m ≤ unlitPlace N m t c → (d : Direction) → lowestAlone m t d < m

@@ -15,6 +15,7 @@ use Rattle.basis.proofs.Arrays.{array-length}
 use Rattle.basis.proofs.Weigh.{bit-most}
 use Rattle.basis.proofs.Below.{first-within, none-within}
 use Rattle.basis.proofs.Descent.{Lowest, lowest-start, lowest-next, lowest-end}
+use Rattle.limits.specs.Limits.{placeCount}
 use Rattle.lightpath.specs.Place.{directionOf}
 use Rattle.lightpath.specs.Circuit.{blankCircuit, canShare}
 use Rattle.lightpath.specs.declared.Direction.{Direction}
@@ -22,14 +23,14 @@ use Rattle.lightpath.specs.declared.Circuit.{Circuit}
 use Rattle.slots.specs.Slot.{held, isUnlit, isLit, isAlone, firstOf}
 use Rattle.slots.specs.declared.Slot.{Slot}
 use Rattle.slots.specs.declared.Slot.the-variants.{Unlit as unlit}
-use Rattle.lit_words.specs.Lit.{withPlace}
+use Rattle.slots.proofs.Contents.{is-unlit, unlit-not}
+use Rattle.lit_words.specs.With.{withPlace}
 use Rattle.lit_words.specs.declared.Lit.{Lit}
 use Rattle.lit_words.proofs.Built.{Built, built-start, built-room, built-skip, built-next, built-end}
 use Rattle.channels.specs.Channels.{Channels, at, circuits, numbered, litAt}
 use Rattle.channels.specs.Nonsharing.{standingAt}
-use Rattle.channels.specs.declared.Standing.{Standing}
-use Rattle.channels.proofs.Places.{is-unlit, weigh-from, weigh-most}
-use Rattle.channels.proofs.LitPlaces.{unlit-not, unlit-words}
+use Rattle.channels.proofs.Places.{weigh-from, weigh-most}
+use Rattle.channels.proofs.LitPlaces.{unlit-words}
 use Rattle.ports_used.specs.PortsUsed.{sends, receives}
 use Rattle.steps.specs.Steps.{canJoin, joinPlace, unlitPlace}
 use Rattle.survey.specs.Survey.{Survey, Pass, standingBelow, surveyOf, unlitBy, passWith, Takes}
@@ -99,9 +100,9 @@ module _ (N m : ℕ) (c : Circuit) (p : ℕ) (s : Slot) where
 -- for `search (needs, place)`
 pub ruleset place = (join-none, join-above, join-alone, seen-dark, seen-lit)
 
-module _ (N m : ℕ) (t : Channels) (c : Circuit) (long : length t ≡ 128) (low : m ≤ 128) where
+module _ (N m : ℕ) (t : Channels) (c : Circuit) (long : length t ≡ placeCount) (low : m ≤ placeCount) where
   -- the start of the pass
-  pub seen-start : Seen N m t c 128 (record {
+  pub seen-start : Seen N m t c placeCount (record {
     numbered = 0;
     sent = 0;
     received = 0;
@@ -112,14 +113,14 @@ module _ (N m : ℕ) (t : Channels) (c : Circuit) (long : length t ≡ 128) (low
     numbers = rw none;
     sources = rw none;
     destinations = rw none;
-    lowest = rw (le-ltb 128 m low) (lowest-start _ m);
+    lowest = rw (le-ltb placeCount m low) (lowest-start _ m);
     words = built-start;
   }
     where
-      none : drop 128 t ≡ []
-      none = drop-of-length-le t {i = 128} (omega arith)
+      none : drop placeCount t ≡ []
+      none = drop-of-length-le t {i = placeCount} (omega arith)
 
-  module _ (p : ℕ) (v : Pass) (s : Seen N m t c p v) (h : 0 < p) (k : p ≤ 128) where
+  module _ (p : ℕ) (v : Pass) (s : Seen N m t c p v) (h : 0 < p) (k : p ≤ placeCount) where
     -- there is room for a place more
     pub seen-room : Takes v (p - 1)
     seen-room = record {
@@ -208,12 +209,12 @@ module _ (N m : ℕ) (t : Channels) (c : Circuit) (v : Survey) (e : v ≡ survey
           omega arith
       go (no n) = omega arith
 
-  lowest-unlit : unlitBy v ≡ firstBelow 128 (λ p. isUnlit (at t p))
+  lowest-unlit : unlitBy v ≡ firstBelow placeCount (λ p. isUnlit (at t p))
   lowest-unlit = ap unlitBy e ∙ unlit-words t
 
   -- step 2's place
-  pub seen-unlit : m ≤ 128 → unlitBy v < m → unlitBy v ≡ unlitPlace N m t c
-  seen-unlit l h = first-within m 128 (λ p. isUnlit (at t p)) (unlitBy v) lowest-unlit l h
+  pub seen-unlit : m ≤ placeCount → unlitBy v < m → unlitBy v ≡ unlitPlace N m t c
+  seen-unlit l h = first-within m placeCount (λ p. isUnlit (at t p)) (unlitBy v) lowest-unlit l h
 
   pub seen-full : m ≤ unlitBy v → m ≤ unlitPlace N m t c
-  seen-full h = omega (arith, none-within m 128 (λ p. isUnlit (at t p)) (unlitBy v) lowest-unlit h)
+  seen-full h = omega (arith, none-within m placeCount (λ p. isUnlit (at t p)) (unlitBy v) lowest-unlit h)

@@ -5,12 +5,13 @@ use mathlib.Core.Bool.{_&&_, not}
 use lib.Dec.{ltb}
 use Rattle.basis.specs.Choice.{pick}
 use Rattle.basis.specs.Search.{firstBelow}
-use Rattle.limits.specs.Limits.{placeCount}
+use Rattle.limits.specs.Limits.{placeCount, circuitRoom}
 use Rattle.lightpath.specs.Circuit.{blankCircuit}
 use Rattle.lightpath.specs.declared.Circuit.{Circuit}
 use Rattle.slots.specs.Slot.{held, isLit}
 use Rattle.slots.specs.declared.Slot.{Slot}
-use Rattle.lit_words.specs.Lit.{litBit, withPlace, RoomFor}
+use Rattle.lit_words.specs.Lit.{litBit}
+use Rattle.lit_words.specs.With.{withPlace, RoomFor}
 use Rattle.channels.specs.Channels.{Channels, circuits, numbered, litOf}
 use Rattle.channels.specs.Nonsharing.{standingAt}
 use Rattle.channels.specs.declared.Standing.{Standing}
@@ -50,7 +51,7 @@ passWith N m c p s v = record {
 
 -- the counts and the words have room for place p
 pub record Takes (v : Pass) (p : ℕ) : Type 0 where
-  pub numbered : v .numbered ≤ 254
-  pub sent : v .sent ≤ 254
-  pub received : v .received ≤ 254
+  pub numbered : v .numbered ≤ circuitRoom
+  pub sent : v .sent ≤ circuitRoom
+  pub received : v .received ≤ circuitRoom
   pub lit : RoomFor (v .lit) p

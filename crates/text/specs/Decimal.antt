@@ -12,3 +12,7 @@ digitsUpTo (suc k) n = pick (ltb n 10) ((48 + n) ∷ []) (digitsUpTo k (n / 10) 
 -- the digits of n, of which there are at most n + 1
 unfoldable pub decimal : ℕ → List ℕ
 decimal n = digitsUpTo n n
+
+-- a number of 32 bits has at most ten
+abbrev pub mostDigits : ℕ
+mostDigits = 10

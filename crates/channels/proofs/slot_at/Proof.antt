@@ -1,12 +1,11 @@
 -- `channels::slot_at` meets its contract. Assumes nothing.
-use mathlib.Core.Path.{sym}
 use borrow.Author.Needs.{needs}
 use Rattle.channels.proofs.Places.{none-there}
 use Rattle.channels.proofs.slot_at.Statement.{statement}
 use Rattle.channels.proofs.slot_at.Tie as tie
 
 returns : tie.Need-returns
-returns c = sym (none-there (c .before .args .t1) (c .before .args .place) (search needs))
+returns c = search (needs, none-there)
 
 mul-channel : tie.Need-mul-channel
 mul-channel c = search needs

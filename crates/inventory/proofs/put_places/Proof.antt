@@ -1,8 +1,9 @@
 -- `inventory::put_places` meets its contract: what is still to be printed is the places from p on. Assumes nothing.
 use Prim.Native.Nat.{_-_}
 use borrow.Author.Needs.{needs}
-use Rattle.inventory.proofs.Places.{Placing, placing}
 use Rattle.basis.proofs.Arrays.{array-length}
+use Rattle.limits.specs.Limits.{placeCount}
+use Rattle.inventory.proofs.Places.{Placing, placing}
 use Rattle.inventory.proofs.put_places.Statement.{statement}
 use Rattle.inventory.proofs.put_places.Tie as tie
 
@@ -10,7 +11,7 @@ abbrev Inv-loop : tie.InvT-loop
 Inv-loop out₀ at channels next₀ p₀ out next p = Placing channels out₀ at out next p
 
 abbrev μ-loop : tie.MeasureT-loop
-μ-loop out₀ at channels next₀ p₀ out next p = 128 - p
+μ-loop out₀ at channels next₀ p₀ out next p = placeCount - p
 
 loop-holds : tie.Need-loop-holds Inv-loop μ-loop
 loop-holds c = search (needs, placing)

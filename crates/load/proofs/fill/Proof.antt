@@ -1,4 +1,4 @@
--- `load::fill` meets its contract. Assumes nothing.
+-- `load::fill` meets its contract: the loads of the links up to `link` are written. Assumes nothing.
 use lib.ListN.{length-set}
 use Prim.Native.Nat.{_-_}
 use Rattle.load.proofs.Filled.{Filled, filling}

@@ -1,5 +1,6 @@
--- `load::link_load` meets its contract. Assumes nothing.
+-- `load::link_load` meets its contract: the sum is that of the wavelengths below w. Assumes nothing.
 use Prim.Native.Nat.{_-_}
+use Rattle.limits.specs.Limits.{mostWavelengths}
 use Rattle.load.proofs.Counted.{Counted, counting}
 use borrow.Author.Needs.{needs}
 use Rattle.load.proofs.link_load.Statement.{statement}
@@ -9,7 +10,7 @@ abbrev Inv-loop : tie.InvT-loop
 Inv-loop nodes channels direction link sum₀ w₀ sum w = Counted nodes channels direction link w sum
 
 abbrev μ-loop : tie.MeasureT-loop
-μ-loop nodes channels direction link sum₀ w₀ sum w = 64 - w
+μ-loop nodes channels direction link sum₀ w₀ sum w = mostWavelengths - w
 
 loop-holds : tie.Need-loop-holds Inv-loop μ-loop
 loop-holds c = search (needs, counting)

@@ -1,6 +1,5 @@
 -- `load::report` meets its contract. Assumes nothing.
-use mathlib.Core.Path.{sym, _∙_}
-use borrow.Author.Tests.{not-true, not-false}
+use Rattle.basis.proofs.Branch.{branch}
 use Rattle.load.proofs.Answers.{report-broken}
 use borrow.Author.Needs.{needs}
 use Rattle.load.proofs.report.Statement.{statement}
@@ -10,12 +9,10 @@ meets-rules-requires : tie.Need-meets-rules-requires
 meets-rules-requires c κs = search needs
 
 returns : tie.Need-returns
-returns c =
-    let s = c .before .before .before in
-    report-broken (s .args .table) (s .args .out .now) (sym (c .before .meets-rules .ensures) ∙ not-true (c .before .meets-rules .result) (c .if1 .taken))
+returns c = report-broken _ _ (search (needs, branch))
 
 report-valid-requires : tie.Need-report-valid-requires
-report-valid-requires c κs = sym (c .before .before .meets-rules .ensures) ∙ not-false (c .before .before .meets-rules .result) (c .before .if1 .left)
+report-valid-requires c κs = search (needs, branch)
 
 same-length : tie.Need-same-length
 same-length c = search needs

@@ -1,6 +1,6 @@
 -- `load::report_valid` meets its contract. Assumes nothing.
-use Rattle.load.proofs.Answers.{report-short, report-full, some-nodes}
-use native.Mathlib.Omega.{arith}
+use Rattle.ring.proofs.TableRules.{some-nodes}
+use Rattle.load.proofs.Answers.{report-short, report-full}
 use borrow.Author.Needs.{needs}
 use Rattle.load.proofs.report_valid.Statement.{statement}
 use Rattle.load.proofs.report_valid.Tie as tie
@@ -12,7 +12,7 @@ mul-if1 : tie.Need-mul-if1
 mul-if1 c = search needs
 
 returns : tie.Need-returns
-returns c = let s = c .before .before .before in report-short (s .args .table) (s .args .out .now) (s .pre) (omega arith)
+returns c = report-short _ _ (search needs) (search needs)
 
 fill-requires : tie.Need-fill-requires
 fill-requires c κs = search (needs, some-nodes)
@@ -21,7 +21,7 @@ same-length : tie.Need-same-length
 same-length c = search needs
 
 returns-2 : tie.Need-returns-2
-returns-2 c = let s = c .before .before .before .before .before .before .before .before in report-full (s .args .table) (s .args .out .now) _ (s .pre) (omega arith) (search needs)
+returns-2 c = let s = c .before .before .before .before .before .before .before .before in report-full _ (s .args .out .now) _ (search needs) (search needs) (search needs)
 
 pub report-valid-spec : {M : Type 1} → statement M
 report-valid-spec =

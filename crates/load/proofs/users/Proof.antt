@@ -1,9 +1,6 @@
 -- `load::users` meets its contract. Assumes nothing.
-use Rattle.basis.proofs.Bools.{byte-bit}
-use Rattle.basis.proofs.Weigh.{bit-most}
 use Rattle.lightpath.specs.Circuit.{users}
-use Rattle.load.proofs.Counted.{counts-one, counts-two}
-use native.Mathlib.Omega.{arith}
+use Rattle.load.proofs.Counted.{counts}
 use borrow.Author.Needs.{needs}
 use Rattle.load.proofs.users.Statement.{statement}
 use Rattle.load.proofs.users.Tie as tie
@@ -36,20 +33,17 @@ cast-result-3 : tie.Need-cast-result-3
 cast-result-3 c = search needs
 
 add-result : tie.Need-add-result
-add-result c =
-    let a = c .before .uses2 .result in
-    let b = c .uses3 .result in
-    record { fits = omega (arith, byte-bit a, bit-most a, byte-bit b, bit-most b) }
+add-result c = search (needs, counts)
 
 returns : tie.Need-returns
 unfolding users
 returns c = search needs
 
 returns-2 : tie.Need-returns-2
-returns-2 c = counts-one _ _ _ _ _ (c .uses .result) (c .before .before .slot .given .1) (c .uses .ensures)
+returns-2 c = search (needs, counts)
 
 returns-3 : tie.Need-returns-3
-returns-3 c = counts-two _ _ _ _ _ _ (c .before .uses2 .result) (c .uses3 .result) (c .before .before .before .slot2 .given .1) (c .before .uses2 .ensures) (c .uses3 .ensures)
+returns-3 c = search (needs, counts)
 
 pub users-spec : {M : Type 1} → statement M
 users-spec =

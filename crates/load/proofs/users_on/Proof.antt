@@ -16,7 +16,7 @@ users-requires : tie.Need-users-requires
 users-requires c κs = search needs
 
 returns : tie.Need-returns
-returns c = rw (← c .before .before .before .place .ensures, ← c .before .slot-at .ensures) (c .users .ensures)
+returns c = cc
 
 pub users-on-spec : {M : Type 1} → statement M
 users-on-spec =

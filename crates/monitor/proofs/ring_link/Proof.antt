@@ -1,5 +1,5 @@
 -- `monitor::ring_link` meets its contract. Assumes nothing.
-use Rattle.monitor.proofs.Forms.{accepted-meets, accepted-link, form-refused}
+use Rattle.monitor.proofs.Forms.{accepting}
 use borrow.Author.Needs.{needs}
 use Rattle.monitor.proofs.ring_link.Statement.{statement}
 use Rattle.monitor.proofs.ring_link.Tie as tie
@@ -11,7 +11,7 @@ enum-told : tie.Need-enum-told
 enum-told c = search needs
 
 link-of-requires : tie.Need-link-of-requires
-link-of-requires c κs = accepted-meets _ _ (c .before .before .before .read .ensures .0) (c .enum-told .given .1)
+link-of-requires c κs = search (needs, accepting)
 
 enum-known-verdict : tie.Need-enum-known-verdict
 enum-known-verdict c = search needs
@@ -20,10 +20,10 @@ refused-requires : tie.Need-refused-requires
 refused-requires c κs = search needs
 
 returns : tie.Need-returns
-returns c = accepted-link _ _ (c .before .before .before .before .read .ensures .0) _ _ _ _ (c .before .enum-told .given .1) (c .link-of .ensures)
+returns c = search (needs, accepting)
 
 returns-2 : tie.Need-returns-2
-returns-2 c = form-refused _ _ (c .before .before .before .before .before .read .ensures .0) _ _ _ _ _ (c .before .before .verdict .given .1) (c .refused .ensures)
+returns-2 c = search (needs, accepting)
 
 pub ring-link-spec : {M : Type 1} → statement M
 ring-link-spec =

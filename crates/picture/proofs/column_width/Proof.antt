@@ -1,15 +1,16 @@
--- `picture::column_width` meets its contract: so far the width is at most ten. Assumes nothing.
+-- `picture::column_width` meets its contract: the places below were looked at. Assumes nothing.
 use Prim.Native.Nat.{_-_, _≤_}
 use borrow.Author.Needs.{needs}
+use Rattle.limits.specs.Limits.{placeCount}
 use Rattle.basis.proofs.Arrays.{array-length}
 use Rattle.picture.proofs.column_width.Statement.{statement}
 use Rattle.picture.proofs.column_width.Tie as tie
 
 abbrev Inv-loop : tie.InvT-loop
-Inv-loop channels width₀ place₀ width place = (width ≤ 10) × (place ≤ 128)
+Inv-loop channels highest₀ place₀ highest place = place ≤ placeCount
 
 abbrev μ-loop : tie.MeasureT-loop
-μ-loop channels width₀ place₀ width place = 128 - place
+μ-loop channels highest₀ place₀ highest place = placeCount - place
 
 loop-holds : tie.Need-loop-holds Inv-loop μ-loop
 loop-holds c = search (needs, array-length)
@@ -20,8 +21,8 @@ mul-channel c = search (needs, array-length)
 array-copy-out-channel : tie.Need-array-copy-out-channel Inv-loop μ-loop
 array-copy-out-channel c = search (needs, array-length)
 
-wider-requires : tie.Need-wider-requires Inv-loop μ-loop
-wider-requires c κs = search (needs, array-length)
+higher-requires : tie.Need-higher-requires Inv-loop μ-loop
+higher-requires c κs = search (needs, array-length)
 
 add-place : tie.Need-add-place Inv-loop μ-loop
 add-place c = search (needs, array-length)
@@ -31,6 +32,9 @@ loop-less c = search (needs, array-length)
 
 loop-again : tie.Need-loop-again Inv-loop μ-loop
 loop-again c = search (needs, array-length)
+
+digits-requires : tie.Need-digits-requires Inv-loop μ-loop
+digits-requires c κs = search (needs, array-length)
 
 returns : tie.Need-returns Inv-loop μ-loop
 returns c = search (needs, array-length)
@@ -44,8 +48,9 @@ column-width-spec =
     loop-holds
     mul-channel
     array-copy-out-channel
-    wider-requires
+    higher-requires
     add-place
     loop-less
     loop-again
+    digits-requires
     returns)

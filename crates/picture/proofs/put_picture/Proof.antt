@@ -1,35 +1,34 @@
 -- `picture::put_picture` meets its contract. Assumes nothing.
 use borrow.Author.Needs.{needs}
-use Rattle.picture.proofs.Appending.{appending}
-use Rattle.picture.proofs.Limits.{limits}
+use Rattle.buffer.proofs.Appending.{appending}
 use Rattle.picture.proofs.put_picture.Statement.{statement}
 use Rattle.picture.proofs.put_picture.Tie as tie
 
 column-width-requires : tie.Need-column-width-requires
-column-width-requires c κs = search (needs, appending, limits)
+column-width-requires c κs = search needs
 
-put-head-requires : tie.Need-put-head-requires
-put-head-requires c κs = search (needs, appending, limits)
+put-title-requires : tie.Need-put-title-requires
+put-title-requires c κs = search needs
 
-put-places-requires : tie.Need-put-places-requires
-put-places-requires c κs = search (needs, appending, limits)
+put-rows-requires : tie.Need-put-rows-requires
+put-rows-requires c κs = search needs
 
-put-foot-requires : tie.Need-put-foot-requires
-put-foot-requires c κs = search (needs, appending, limits)
+put-legend-requires : tie.Need-put-legend-requires
+put-legend-requires c κs = search needs
 
 same-length : tie.Need-same-length
-same-length c = search (needs, appending, limits)
+same-length c = search needs
 
 returns : tie.Need-returns
-returns c = search (needs, appending, limits)
+returns c = record { some = search appending; short = search needs }
 
 pub put-picture-spec : {M : Type 1} → statement M
 put-picture-spec =
     tie.close
     (tie.spec
     column-width-requires
-    put-head-requires
-    put-places-requires
-    put-foot-requires
+    put-title-requires
+    put-rows-requires
+    put-legend-requires
     same-length
     returns)

@@ -2,13 +2,13 @@
 use mathlib.Core.Path.{_≡_}
 use lib.ListN.{length}
 use borrow.Author.Needs.{needs}
-use Rattle.ringplan.specs.Plan.{Sound}
+use Rattle.ringplan.specs.Plan.{BetweenReads}
 use Rattle.ringplan.proofs.Feeding.{start-sound}
 use Rattle.ringplan.proofs.run.Statement.{statement}
 use Rattle.ringplan.proofs.run.Tie as tie
 
 abbrev Inv-loop : tie.InvT-loop
-Inv-loop line₀ out₀ held₀ reads₀ line out held reads = Sound held line out × (length line ≡ length line₀) × (length out ≡ length out₀)
+Inv-loop line₀ out₀ held₀ reads₀ line out held reads = BetweenReads held line out × (length line ≡ length line₀) × (length out ≡ length out₀)
 
 abbrev μ-loop : tie.MeasureT-loop
 μ-loop line₀ out₀ held₀ reads₀ line out held reads = reads

@@ -1,12 +1,13 @@
 -- `survey::survey_places` meets its contract. The loop's invariant: `seen` is what the places from `place` on have. Assumes nothing.
 use Prim.Native.Nat.{_≤_}
+use Rattle.limits.specs.Limits.{placeCount}
 use Rattle.survey.proofs.Seen.{Seen, seen}
 use borrow.Author.Needs.{needs}
 use Rattle.survey.proofs.survey_places.Statement.{statement}
 use Rattle.survey.proofs.survey_places.Tie as tie
 
 abbrev Inv-loop : tie.InvT-loop
-Inv-loop nodes limit circuit channels seen₀ place₀ seen place = (place ≤ 128) × Seen nodes limit channels circuit place seen
+Inv-loop nodes limit circuit channels seen₀ place₀ seen place = (place ≤ placeCount) × Seen nodes limit channels circuit place seen
 
 abbrev μ-loop : tie.MeasureT-loop
 μ-loop nodes limit circuit channels seen₀ place₀ seen place = place

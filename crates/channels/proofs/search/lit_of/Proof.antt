@@ -1,5 +1,6 @@
 -- `channels::search::lit_of` meets its contract. The loop's invariant: the words hold the lit places from `p` on. Assumes nothing.
 use Prim.Native.Nat.{_≤_}
+use Rattle.limits.specs.Limits.{placeCount}
 use Rattle.lit_words.proofs.Built.{Built, built}
 use Rattle.channels.specs.Channels.{litAt}
 use borrow.Author.Needs.{needs}
@@ -7,7 +8,7 @@ use Rattle.channels.proofs.search.lit_of.Statement.{statement}
 use Rattle.channels.proofs.search.lit_of.Tie as tie
 
 abbrev Inv-loop : tie.InvT-loop
-Inv-loop channels lit₀ p₀ lit p = (p ≤ 128) × Built (litAt channels) p lit
+Inv-loop channels lit₀ p₀ lit p = (p ≤ placeCount) × Built (litAt channels) p lit
 
 abbrev μ-loop : tie.MeasureT-loop
 μ-loop channels lit₀ p₀ lit p = p

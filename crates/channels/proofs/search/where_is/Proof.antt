@@ -1,7 +1,8 @@
--- `channels::search::where_is` meets its contract. Assumes nothing.
+-- `channels::search::where_is` meets its contract: no place before p holds the number. Assumes nothing.
 use Prim.Native.Nat.{_-_, _≤_}
 use mathlib.Core.Bool.{false}
 use Rattle.basis.proofs.Scan.{Passed, scan}
+use Rattle.limits.specs.Limits.{placeCount}
 use Rattle.slots.specs.Slot.{holds}
 use Rattle.channels.specs.Channels.{at}
 use borrow.Author.Needs.{needs}
@@ -9,10 +10,10 @@ use Rattle.channels.proofs.search.where_is.Statement.{statement}
 use Rattle.channels.proofs.search.where_is.Tie as tie
 
 abbrev Inv-loop : tie.InvT-loop
-Inv-loop number channels p₀ p = (p ≤ 128) × Passed (λ p. holds number (at channels p)) false p
+Inv-loop number channels p₀ p = (p ≤ placeCount) × Passed (λ p. holds number (at channels p)) false p
 
 abbrev μ-loop : tie.MeasureT-loop
-μ-loop number channels p₀ p = 128 - p
+μ-loop number channels p₀ p = placeCount - p
 
 loop-holds : tie.Need-loop-holds Inv-loop μ-loop
 loop-holds c = search (needs, scan)

@@ -1,5 +1,6 @@
 -- `channels::updates::without_circuit` meets its contract. Assumes nothing.
 use borrow.Author.Needs.{needs}
+use Rattle.channels.proofs.Puts.{closed-is}
 use Rattle.channels.proofs.updates.without_circuit.Statement.{statement}
 use Rattle.channels.proofs.updates.without_circuit.Tie as tie
 
@@ -19,7 +20,7 @@ array-set-from-after : tie.Need-array-set-from-after
 array-set-from-after c = search needs
 
 returns : tie.Need-returns
-returns c = rw (← c .before .before .pre .0, c .without .ensures)
+returns c = search (needs, closed-is)
 
 pub without-circuit-spec : {M : Type 1} → statement M
 without-circuit-spec =

@@ -1,16 +1,17 @@
 -- `decode::places::read_records` meets its contract: the records of the places before this one are read into the channels, and the next is at `at`. Assumes nothing.
 use Prim.Native.Nat.{_-_, _≤_}
 use borrow.Author.Needs.{needs}
+use Rattle.limits.specs.Limits.{placeCount}
 use Rattle.lit_words.specs.Lit.{litBit}
 use Rattle.decode.proofs.Listing.{Listing, listing}
 use Rattle.decode.proofs.places.read_records.Statement.{statement}
 use Rattle.decode.proofs.places.read_records.Tie as tie
 
 abbrev Inv-loop : tie.InvT-loop
-Inv-loop form start lit channels₀ at₀ place₀ channels at place = (place ≤ 128) × Listing (litBit lit) form start place channels at
+Inv-loop form start lit channels₀ at₀ place₀ channels at place = (place ≤ placeCount) × Listing (litBit lit) form start place channels at
 
 abbrev μ-loop : tie.MeasureT-loop
-μ-loop form start lit channels₀ at₀ place₀ channels at place = 128 - place
+μ-loop form start lit channels₀ at₀ place₀ channels at place = placeCount - place
 
 unlit-channels-requires : tie.Need-unlit-channels-requires Inv-loop μ-loop
 unlit-channels-requires c κs = search needs

@@ -1,15 +1,16 @@
 -- `encode::places::put_records` meets its contract: the records of the places from this one on are still to be written. Assumes nothing.
 use Prim.Native.Nat.{_-_, _≤_}
 use borrow.Author.Needs.{needs}
+use Rattle.limits.specs.Limits.{placeCount}
 use Rattle.encode.proofs.Records.{Recording, recording}
 use Rattle.encode.proofs.places.put_records.Statement.{statement}
 use Rattle.encode.proofs.places.put_records.Tie as tie
 
 abbrev Inv-loop : tie.InvT-loop
-Inv-loop out₀ start channels at₀ place₀ out at place = (place ≤ 128) × Recording out₀ start channels place out at
+Inv-loop out₀ start channels at₀ place₀ out at place = (place ≤ placeCount) × Recording out₀ start channels place out at
 
 abbrev μ-loop : tie.MeasureT-loop
-μ-loop out₀ start channels at₀ place₀ out at place = 128 - place
+μ-loop out₀ start channels at₀ place₀ out at place = placeCount - place
 
 loop-holds : tie.Need-loop-holds Inv-loop μ-loop
 loop-holds c = search needs

@@ -4,15 +4,16 @@ use mathlib.Core.Bool.{true, _||_, not}
 use lib.Dec.{ltb}
 use borrow.Author.Needs.{needs}
 use Rattle.basis.proofs.Scan.{Passed, scan}
+use Rattle.limits.specs.Limits.{placeCount}
 use Rattle.lit_words.specs.Lit.{litBit, noneLitFrom}
 use Rattle.lit_words.proofs.Lit.none_lit_from.Statement.{statement}
 use Rattle.lit_words.proofs.Lit.none_lit_from.Tie as tie
 
 abbrev Inv-loop : tie.InvT-loop
-Inv-loop lit limit place₀ place = (place ≤ 128) × Passed (λ p. ltb p limit || not (litBit lit p)) true place
+Inv-loop lit limit place₀ place = (place ≤ placeCount) × Passed (λ p. ltb p limit || not (litBit lit p)) true place
 
 abbrev μ-loop : tie.MeasureT-loop
-μ-loop lit limit place₀ place = 128 - place
+μ-loop lit limit place₀ place = placeCount - place
 
 loop-holds : tie.Need-loop-holds Inv-loop μ-loop
 loop-holds c = search (needs, scan)

@@ -1,6 +1,6 @@
 -- `ring::RingTable::decide` meets its contract. Assumes nothing.
 use Rattle.basis.proofs.Branch.{branch}
-use Rattle.ring.proofs.Served.{decide-unmet}
+use Rattle.ring.proofs.Deciding.{decide-unmet}
 use Rattle.ring.proofs.Demand.{decides}
 use borrow.Author.Needs.{needs}
 use Rattle.ring.proofs.RingTable.decide.Statement.{statement}

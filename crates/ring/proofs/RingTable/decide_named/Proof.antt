@@ -1,5 +1,5 @@
 -- `ring::RingTable::decide_named` meets its contract. Assumes nothing.
-use Rattle.ring.proofs.Served.{deciding}
+use Rattle.ring.proofs.Deciding.{deciding}
 use borrow.Author.Needs.{needs}
 use Rattle.ring.proofs.RingTable.decide_named.Statement.{statement}
 use Rattle.ring.proofs.RingTable.decide_named.Tie as tie

@@ -1,5 +1,5 @@
 -- `ring::RingTable::decide_valid` meets its contract. Assumes nothing.
-use Rattle.ring.proofs.Served.{deciding}
+use Rattle.ring.proofs.Deciding.{deciding}
 use Rattle.ring.proofs.Demand.{decides-valid}
 use borrow.Author.Needs.{needs}
 use Rattle.ring.proofs.RingTable.decide_valid.Statement.{statement}

@@ -1,5 +1,5 @@
 -- `ring::RingTable::serve` meets its contract. Assumes nothing.
-use Rattle.ring.proofs.Served.{served-by}
+use Rattle.ring.proofs.Deciding.{carried-out}
 use borrow.Author.Needs.{needs}
 use Rattle.ring.proofs.RingTable.serve.Statement.{statement}
 use Rattle.ring.proofs.RingTable.serve.Tie as tie
@@ -11,7 +11,7 @@ changed-requires : tie.Need-changed-requires
 changed-requires c κs = search needs
 
 returns : tie.Need-returns
-returns c = search (needs, served-by)
+returns c = search (needs, carried-out)
 
 pub serve-spec : {M : Type 1} → statement M
 serve-spec = tie.close (tie.spec plan-requires changed-requires returns)

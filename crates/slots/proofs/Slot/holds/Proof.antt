@@ -1,6 +1,7 @@
 -- `slots::Slot::holds` meets its contract. Assumes nothing.
-use borrow.Author.Tests.{eq-eqb, ne-eqb}
+use Rattle.basis.proofs.Branch.{branch}
 use borrow.Author.Needs.{needs}
+use Rattle.slots.proofs.Contents.{found}
 use Rattle.slots.proofs.Slot.holds.Statement.{statement}
 use Rattle.slots.proofs.Slot.holds.Tie as tie
 
@@ -17,13 +18,13 @@ returns : tie.Need-returns
 returns c = search needs
 
 returns-2 : tie.Need-returns-2
-returns-2 c = simp (c .before .before .self .given .1)
+returns-2 c = search (needs, found, branch)
 
 returns-3 : tie.Need-returns-3
-returns-3 c = simp (c .before .before .before .self2 .given .1, eq-eqb _ _ (c .if1 .taken))
+returns-3 c = search (needs, found, branch)
 
 returns-4 : tie.Need-returns-4
-returns-4 c = simp (c .before .before .before .before .self2 .given .1, ne-eqb _ _ (c .before .if1 .left))
+returns-4 c = search (needs, found, branch)
 
 pub holds-spec : {M : Type 1} → statement M
 holds-spec =

@@ -1,0 +1,21 @@
+-- A line run by the planner's program: its table meets the ring rules, and the answer has room. Assumes nothing.
+-- What running any line asks for and promises.
+use Prim.Native.Nat.{ℕ, _+_, _≤_}
+use mathlib.Core.List.{List}
+use lib.ListN.{length}
+use Rattle.desk.specs.Desk.{KeepsRules}
+use Rattle.desk.specs.declared.Desk.{Desk}
+use Rattle.desk.specs.declared.Ran.{Ran}
+use Rattle.buffer.specs.Appended.{Extends}
+use Rattle.answer_room.specs.Room.{lineRoom}
+
+-- what running a line asks for
+pub record CanAnswer (d : Desk) (l : List ℕ) (at : ℕ) : Type 0 where
+  pub rules : KeepsRules d
+  pub room : at + lineRoom ≤ length l
+
+-- a line was run: the table meets the ring rules again, and the lent bytes have the answer and are else the same
+pub record LineAnswered (l : List ℕ) (at : ℕ) (l′ : List ℕ) (r : Ran) : Type 0 where
+  pub rules : KeepsRules (r .desk)
+  pub some : Extends l at l′ (r .next)
+  pub short : r .next ≤ at + lineRoom

@@ -1,0 +1,2 @@
+-- What a ring and a request are refused for.
+pub mod Causes

@@ -1,0 +1,2 @@
+-- The laws of columns: digits counted.
+mod DigitCount

@@ -1,0 +1,2 @@
+-- The room of a row's columns.
+pub mod Columns

@@ -1,0 +1,107 @@
+-- Reading an optional field and a circuit at a position. Each law takes what the calls ensured and what the branches tested as they
+-- stand in the record of a need, so that `search` finds it. Assumes nothing.
+use Prim.Native.Nat.{ℕ, suc, _+_, _-_, _^_, _≤_, _<_}
+use mathlib.Core.Path.{_≡_, refl, ap, _∙_}
+use mathlib.Core.Bool.{Bool, true, false, not}
+use mathlib.Core.List.{List, [], _∷_}
+use native.Mathlib.Nat.{zero-lt-suc, one-le-pow}
+use native.Mathlib.Omega.{arith}
+use lib.ListN.{length, getD, take, drop, length-drop}
+use lib.Seq.{drop-cons, drop-drop, length-take-le}
+use mir.Syntax.{w16}
+use mir.Val.{Fits}
+use borrow.Author.Tests.{le-leb, lt-leb, eq-eqb, ne-eqb, not-true, not-false}
+use Rattle.refusals.specs.declared.Refusal.{Refusal}
+use Rattle.refusals.specs.declared.Refusal.the-variants.{CutShort, BadField}
+use Rattle.form.specs.Bytes.{numberIn}
+use Rattle.form.specs.Form.{present}
+use Rattle.form.specs.Reader.{got, fault, andThen, give, _unless_}
+use Rattle.form.specs.Reading.{readOptional, readCircuit}
+use Rattle.decode_record.specs.declared.optional.OptionalRead.{OptionalRead}
+use Rattle.decode_record.specs.declared.optional.OptionalRead.the-variants.{Got, Refused}
+use Rattle.decode_record.specs.Found.{OptionalAt}
+
+-- one more byte
+pub byte-at : (b : List ℕ) (i j : ℕ) → i < length b → i + 1 ≡ j → drop i b ≡ getD b i 0 ∷ drop j b
+byte-at b i j h e = let g : suc i ≡ j = omega arith in drop-cons b i 0 h ∙ ap (λ (k : ℕ). getD b i 0 ∷ drop k b) g
+
+-- an optional field: not there, cut short, 0, or read
+module _ (width : ℕ) (b : List ℕ) (i : ℕ) (m : Bool) where
+  pub optional-none : not m ≡ true → readOptional width m (drop i b) ≡ got 0 (drop i b)
+  unfolding readOptional
+  optional-none e = rw (not-true m e)
+
+  pub zero-small : 0 < 256 ^ width
+  zero-small = one-le-pow width 256 (zero-lt-suc 255)
+
+  module _ (e : not m ≡ false) (l : i ≤ length b) where
+    pub optional-cut : length b - i < width → readOptional width m (drop i b) ≡ fault CutShort
+    unfolding readOptional
+    optional-cut h = rw (not-false m e, lt-leb width (length (drop i b)) (simp length-drop h))
+
+    module _ (h : width ≤ length b - i) (v : ℕ) (g : (v ≡ numberIn (take (i + width - i) (drop i b))) × (v < 256 ^ length (take (i + width - i) (drop i b)))) where
+      as-wide : i + width - i ≡ width
+      as-wide = omega arith
+
+      there : readOptional width m (drop i b) ≡ andThen ((BadField unless present v) (drop (i + width) b)) (λ u. give v)
+      unfolding readOptional
+      there =
+          let k : v ≡ numberIn (take width (drop i b)) = rw as-wide at (g .0) in
+          rw (not-false m e, le-leb width (length (drop i b)) (simp length-drop h), drop-drop width i b, k)
+
+      pub optional-zero : v ≡ 0 → readOptional width m (drop i b) ≡ fault BadField
+      optional-zero z = there ∙ rw (eq-eqb v 0 z)
+
+      pub optional-got : (v ≡ 0 → ⊥) → readOptional width m (drop i b) ≡ got v (drop (i + width) b)
+      optional-got z = there ∙ rw (ne-eqb v 0 z)
+
+      pub optional-small : v < 256 ^ width
+      optional-small = rw (length-take-le width (drop i b) (simp length-drop h)) at (rw as-wide at (g .1))
+
+pub ruleset optionalRules = (optional-none, zero-small, optional-cut, optional-zero, optional-got, optional-small)
+
+-- a circuit of which six bytes are not there is cut short
+short : (m : Bool) (s : List ℕ) → length s < 6 → readCircuit m s ≡ fault CutShort
+unfolding readCircuit
+short m [] h = refl
+short m (x0 ∷ []) h = refl
+short m (x0 ∷ x1 ∷ []) h = refl
+short m (x0 ∷ x1 ∷ x2 ∷ []) h = refl
+short m (x0 ∷ x1 ∷ x2 ∷ x3 ∷ []) h = refl
+short m (x0 ∷ x1 ∷ x2 ∷ x3 ∷ x4 ∷ []) h = refl
+short m (x0 ∷ x1 ∷ x2 ∷ x3 ∷ x4 ∷ x5 ∷ s) h = absurd (omega arith)
+
+-- a circuit: cut short, refused by its remark, or read
+module _ (b : List ℕ) (i : ℕ) (m : Bool) (l : i ≤ length b) where
+  pub circuit-cut : length b - i < 6 → readCircuit m (drop i b) ≡ fault CutShort
+  circuit-cut h = short m (drop i b) (simp length-drop (omega arith))
+
+  module _ (h : 6 ≤ length b - i) (n : ℕ) (e : n ≡ numberIn (take (i + 4 - i) (drop i b)))
+      (f : OptionalRead) (a : OptionalAt 2 b f (readOptional 2 m (drop (i + 4 + 2) b))) where
+    begun : readCircuit m (drop i b) ≡ andThen (readOptional 2 m (drop (i + 4 + 2) b)) (λ r. give (record { number = n; source = getD b (i + 4) 0; destination = getD b (i + 4 + 1) 0; remark = r }))
+    unfolding readCircuit
+    begun =
+        let w : i + 4 - i ≡ 4 = omega arith in
+        let k : n ≡ numberIn (take 4 (drop i b)) = rw w at e in
+        rw (
+          le-leb 4 (length (drop i b)) (simp length-drop (omega arith)),
+          drop-drop 4 i b,
+          byte-at b (i + 4) (i + 4 + 1) (omega arith) refl,
+          byte-at b (i + 4 + 1) (i + 4 + 2) (omega arith) (omega arith),
+          k,
+        )
+
+    pub circuit-fault : (r : Refusal) → f ≡ Refused r → readCircuit m (drop i b) ≡ fault r
+    circuit-fault r g = begun ∙ rw (rw g at a)
+
+    pub circuit-got : (r k : ℕ) → f ≡ Got r k
+        → readCircuit m (drop i b) ≡ got (record { number = n; source = getD b (i + 4) 0; destination = getD b (i + 4 + 1) 0; remark = r }) (drop k b)
+    circuit-got r k g = begun ∙ rw ((rw g at a) .2)
+
+    pub circuit-within : (r k : ℕ) → f ≡ Got r k → k ≤ length b
+    circuit-within r k g = (rw g at a) .0
+
+    pub remark-fits : (r k : ℕ) → f ≡ Got r k → Fits w16 r
+    remark-fits r k g = omega (arith, (rw g at a) .1)
+
+pub ruleset circuitRules = (circuit-cut, circuit-fault, circuit-got, circuit-within, remark-fits)

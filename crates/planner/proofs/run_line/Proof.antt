@@ -1,0 +1,100 @@
+-- `planner::run_line` meets its contract. Assumes nothing.
+use borrow.Author.Needs.{needs}
+use Rattle.planner.proofs.Script.{commands, not-question}
+use Rattle.planner.proofs.Lines.{read-short, run-answered}
+use Rattle.commands.proofs.Begins.{beginning}
+use Rattle.planner.proofs.run_line.Statement.{statement}
+use Rattle.planner.proofs.run_line.Tie as tie
+
+parse-command-requires : tie.Need-parse-command-requires
+parse-command-requires c κs = search needs
+
+enum-known-command : tie.Need-enum-known-command
+enum-known-command c = search needs
+
+sub-run-read : tie.Need-sub-run-read
+sub-run-read c = search (needs, beginning)
+
+part-run-read-start : tie.Need-part-run-read-start
+part-run-read-start c = search (needs, beginning)
+
+part-run-read-end : tie.Need-part-run-read-end
+part-run-read-end c = search needs
+
+run-read-requires : tie.Need-run-read-requires
+run-read-requires c κs = search (needs, read-short)
+
+enum-known-command-2 : tie.Need-enum-known-command-2
+enum-known-command-2 c = search needs
+
+sub-run-read-file : tie.Need-sub-run-read-file
+sub-run-read-file c = search (needs, beginning)
+
+part-run-read-file-start : tie.Need-part-run-read-file-start
+part-run-read-file-start c = search (needs, beginning)
+
+part-run-read-file-end : tie.Need-part-run-read-file-end
+part-run-read-file-end c = search needs
+
+run-read-file-requires : tie.Need-run-read-file-requires
+run-read-file-requires c κs = search needs
+
+enum-told : tie.Need-enum-told
+enum-told c = search needs
+
+run-line-requires : tie.Need-run-line-requires
+run-line-requires c κs = search needs
+
+run-question-requires : tie.Need-run-question-requires
+run-question-requires c κs = search needs
+
+same-length : tie.Need-same-length
+same-length c = search needs
+
+returns : tie.Need-returns
+returns c = (search needs, λ k. absurd (search (needs, commands)))
+
+same-length-2 : tie.Need-same-length-2
+same-length-2 c = search needs
+
+returns-2 : tie.Need-returns-2
+returns-2 c = (search needs, λ k. absurd (search (needs, commands)))
+
+same-length-3 : tie.Need-same-length-3
+same-length-3 c = search needs
+
+returns-3 : tie.Need-returns-3
+returns-3 c = (search (needs, run-answered), λ k. search needs)
+
+same-length-4 : tie.Need-same-length-4
+same-length-4 c = search needs
+
+returns-4 : tie.Need-returns-4
+returns-4 c = (search needs, λ k. absurd (not-question _ _ (c .before .before .before .before .before .parse-command .ensures) k (c .before .before .before .before .match .keys4)))
+
+pub run-line-spec : {M : Type 1} → statement M
+run-line-spec =
+    tie.close
+    (tie.spec
+    parse-command-requires
+    enum-known-command
+    sub-run-read
+    part-run-read-start
+    part-run-read-end
+    run-read-requires
+    enum-known-command-2
+    sub-run-read-file
+    part-run-read-file-start
+    part-run-read-file-end
+    run-read-file-requires
+    enum-told
+    run-line-requires
+    run-question-requires
+    same-length
+    returns
+    same-length-2
+    returns-2
+    same-length-3
+    returns-3
+    same-length-4
+    returns-4)

@@ -1,0 +1,2 @@
+-- What a question of the table asks for.
+pub mod Asks

@@ -1,0 +1,89 @@
+// One line of the planner's program, run and answered as bytes.
+mod ask;
+
+ghost use mathlib.Core.Path.{_≡_};
+ghost use Prim.Native.Nat.{_≤_};
+ghost use lib.ListN.{length};
+ghost use Rattle.commands.specs.Command.{longestCommand, commandOf};
+ghost use Rattle.desk.specs.Desk.{runLine, HasRun};
+ghost use Rattle.buffer.specs.Appended.{Appended};
+ghost use Rattle.answer_room.specs.Room.{lineRoom};
+ghost use Rattle.answer_room.specs.Line.{CanAnswer, LineAnswered};
+ghost use Rattle.planner.specs.Asks.{Asks};
+use commands::Command;
+use commands::MOST_READ;
+use desk::Desk;
+use desk::Ran;
+use hex::Digits;
+use ring::RingTable;
+
+// Prints `line refused`, and nothing changes.
+fn refuse(desk: Desk, out: &mut [u8], at: usize) -> Ran
+    requires { ⌜ CanAnswer desk (now out) at ⌝ }
+    ensures { λ r. ⌜ LineAnswered (now (out .entry)) at (now (out .exit)) r ⌝ }
+{
+    let next = print::put_line_refused(out, at);
+    Ran { desk, next }
+}
+
+// `read FORM` with the form's digits.
+fn run_read(desk: Desk, word: &[u8], out: &mut [u8], at: usize) -> Ran
+    requires { ⌜ CanAnswer desk (now out) at × (length (now word) ≤ longestCommand) ⌝ }
+    ensures { λ r. ⌜ LineAnswered (now (out .entry)) at (now (out .exit)) r ⌝ }
+{
+    let mut form = [0u8; MOST_READ];
+    let digits = saved_forms::read_word(word, &mut form);
+    match digits {
+        Digits::Bytes(count) => saved_forms::take_form(desk, &form[..count], out, at),
+        Digits::Bad => refuse(desk, out, at),
+    }
+}
+
+// The answer to a question of the table. A command that is none is refused.
+fn answer(table: RingTable, command: Command, line: &[u8], out: &mut [u8], at: usize) -> usize
+    requires { ⌜ Asks table (now out) at × (command ≡ commandOf (now line)) ⌝ }
+    ensures { λ r. ⌜ Appended lineRoom (now (out .entry)) at (now (out .exit)) r ⌝ }
+{
+    match command {
+        Command::Write => ask::answer_write(table, out, at),
+        Command::WriteFile(start) => ask::answer_write_file(table, &line[start..], out, at),
+        Command::Load => ask::answer_load(table, out, at),
+        Command::Link {
+            link,
+            wavelength,
+            direction,
+        } => ask::answer_link(table, link, wavelength, direction, out, at),
+        Command::Circuits => ask::answer_circuits(table, out, at),
+        Command::Show => ask::answer_show(table, out, at),
+        _ => print::put_line_refused(out, at),
+    }
+}
+
+// A question of the table, which is refused where there is none.
+fn run_question(desk: Desk, command: Command, line: &[u8], out: &mut [u8], at: usize) -> Ran
+    requires { ⌜ CanAnswer desk (now out) at × (command ≡ commandOf (now line)) ⌝ }
+    ensures { λ r. ⌜ LineAnswered (now (out .entry)) at (now (out .exit)) r ⌝ }
+{
+    if !desk.ready {
+        return refuse(desk, out, at);
+    }
+    let table = desk.table;
+    let next = answer(table, command, line, out, at);
+    Ran { desk, next }
+}
+
+// Runs a line without its line end, and writes the answer at a position of the lent bytes. One that is no command is run as the script
+// program runs it.
+pub fn run_line(desk: Desk, line: &[u8], out: &mut [u8], at: usize) -> Ran
+    requires { ⌜ CanAnswer desk (now out) at ⌝ }
+    ensures answer { λ r. ⌜ LineAnswered (now (out .entry)) at (now (out .exit)) r ⌝ }
+    ensures script { λ r. ⌜ (commandOf (now (line .entry)) ≡ Command.Desk → HasRun (runLine desk (now (line .entry))) (now (out .entry)) at (now (out .exit)) r) ⌝ }
+{
+    let command = commands::parse_command(line);
+    match command {
+        Command::Read(start) => run_read(desk, &line[start..], out, at),
+        Command::ReadFile(start) => saved_forms::run_read_file(desk, &line[start..], out, at),
+        Command::Desk => desk::run_line(desk, line, out, at),
+        _ => run_question(desk, command, line, out, at),
+    }
+}

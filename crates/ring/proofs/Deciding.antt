@@ -1,0 +1,153 @@
+-- What an opening of a table that meets the ring rules gives, by its verdict; the table after it meets them again, and the looks are at most
+-- 8,256. Assumes nothing.
+use Prim.Native.Nat.{ℕ, _≤_, _<_}
+use mathlib.Core.Path.{_≡_, refl, sym, ap, _∙_}
+use mathlib.Core.Bool.{Bool, true, not}
+use mathlib.Core.List.{List, [], _∷_}
+use native.Mathlib.Omega.{arith}
+use lib.Dec.{ltb}
+use lib.ListN.{getD}
+use borrow.Author.Tests.{not-true}
+use Rattle.limits.specs.Limits.{placeCount, leastRecords}
+use Rattle.lightpath.specs.declared.Circuit.{Circuit}
+use Rattle.channels.specs.Channels.{Channels}
+use Rattle.channels.specs.Change.{puts}
+use Rattle.channels.specs.Changes.{inOrder}
+use Rattle.ports.specs.Ports.{limitOf, portsAt}
+use Rattle.rules.proofs.Allowable.{Allowable}
+use Rattle.steps.specs.Plan.{Plan}
+use Rattle.steps.specs.Steps.{planOf}
+use Rattle.steps.specs.Ready.{Ready}
+use Rattle.steps.specs.Kept.{PlanKeeps}
+use Rattle.steps.proofs.Step3.{ready}
+use Rattle.steps.proofs.Steps.{plan-serves}
+use Rattle.steps.proofs.Looks.{plan-looks}
+use Rattle.survey.specs.Survey.{surveyOf}
+use Rattle.survey.specs.declared.Survey.{Survey}
+use Rattle.plan.specs.Planned.{Plans}
+use Rattle.plan.specs.declared.Planned.{Planned}
+use Rattle.plan.proofs.ByValue.{planned-changes, planned-count}
+use Rattle.refusals.specs.Refusal.{Cause, _if_, judged}
+use Rattle.refusals.specs.declared.Refusal.{Refusal}
+use Rattle.refusals.specs.declared.Refusal.the-variants.{NumberLive, NoTransmitter, NoReceiver, ShortList, BrokenRule}
+use Rattle.refusals.specs.declared.Verdict.{Verdict}
+use Rattle.refusals.specs.declared.Verdict.the-variants.{Granted as granted, Refused as refused}
+use Rattle.refusals.specs.Answer.{Answer}
+use Rattle.ring.specs.Table.{RingTable, meetsRules, withChannels}
+use Rattle.causes.specs.Causes.{namedCauses}
+use Rattle.ring.specs.Opening.{Decision, taken, usedCauses, requestCauses, openCauses, carriedOut, refusing, decidedBy, decideOf}
+use Rattle.ring.specs.Answer.{openingAnswer}
+use Rattle.ring.proofs.TableRules.{table-rules, table-limits, some-nodes}
+use Rattle.refusals.proofs.Judged.{granted-rest, judged-past, judged-stop}
+use Rattle.ring.proofs.Causes.{allowable}
+
+-- the plan of the steps for a request, and the places after it
+abbrev pub planned : RingTable → Circuit → Plan
+planned t c = planOf (t .nodes) (limitOf (t .ports)) (t .channels) c
+
+abbrev pub after : RingTable → Circuit → Channels
+after t c = puts (planned t c .changes) (t .channels)
+
+-- a table that was found to break a rule is met by 22
+pub decide-unmet : (t : RingTable) (c : Circuit) (n : ℕ) (r : Bool) (d : Decision) → r ≡ meetsRules t → not r ≡ true
+    → d ≡ refusing t BrokenRule → d ≡ decideOf t c n
+unfolding decideOf
+decide-unmet t c n r d e h k = rw (← e, not-true r h) k
+
+-- a plan by value, below the limit, is carried out
+pub carried-out : (t : RingTable) (c : Circuit) (m : ℕ) (p : Planned) (chs : Channels) → Plans (planOf (t .nodes) m (t .channels) c) p
+    → chs ≡ puts (inOrder (p .changes)) (t .channels) → m ≡ limitOf (t .ports)
+    → record { opened = record { table = withChannels t chs; answer = taken (p .place) (p .moves .count) (p .looks) }; moves = p .moves } ≡ carriedOut t (planned t c)
+carried-out t c m p chs e f l =
+    rw (← l, f, planned-changes (t .nodes) m (t .channels) c p (e .is), ← planned-count (t .nodes) m (t .channels) c p (e .is), e .is)
+
+module _ (t : RingTable) (c : Circuit) (n : ℕ) (rules : meetsRules t ≡ true) where
+  -- 22 does not come up
+  pub decided : (v : Verdict) → judged (openCauses t c n) ≡ v → decideOf t c n ≡ decidedBy t c v
+  unfolding decideOf
+  decided v e = rw (rules, e)
+
+  -- the short list and the nodes named are judged before what is in use
+  abbrev named : List Cause
+  named = (ShortList if ltb n leastRecords) ∷ namedCauses (t .nodes) c
+
+  -- a request that they meet is refused
+  pub decide-refused : (v : Verdict) (r : Refusal) (d : Decision) → v ≡ judged named → v ≡ refused r → d ≡ refusing t r → d ≡ decideOf t c n
+  decide-refused v r d e h k = k ∙ sym (decided (refused r) (judged-stop named (usedCauses t c) r (sym e ∙ h)))
+
+  -- and any other goes by what is in use
+  pub decide-granted : (v : Verdict) (d : Decision) → v ≡ judged named → v ≡ granted → d ≡ decidedBy t c (judged (usedCauses t c)) → d ≡ decideOf t c n
+  decide-granted v d e h k = k ∙ sym (decided (judged (usedCauses t c)) (judged-past named (usedCauses t c) (sym e ∙ h)))
+
+  -- a request that no cause meets is one that the ports permit
+  permits : judged (openCauses t c n) ≡ granted → Allowable (t .nodes) (t .ports) (t .channels) c
+  permits e = allowable t c (granted-rest (ShortList if ltb n leastRecords) (requestCauses t c) e)
+
+  -- so the table is ready for its steps
+  open-ready : judged (openCauses t c n) ≡ granted → Ready (t .nodes) (limitOf (t .ports)) (t .channels) c
+  open-ready e = ready (t .nodes) (t .ports) (t .channels) c (table-rules t rules) (permits e)
+
+  -- and they serve it
+  pub serves : judged (openCauses t c n) ≡ granted
+      → PlanKeeps (t .nodes) (t .ports) (t .channels) c (after t c) (planned t c .taken) (planned t c .moves)
+  serves e = plan-serves (t .nodes) (t .ports) (t .channels) c (table-rules t rules) (permits e)
+
+  -- whatever the answer, the table after it meets the ring rules
+  pub open-rules : meetsRules (decideOf t c n .opened .table) ≡ true
+  open-rules = go (judged (openCauses t c n)) refl
+    where
+      go : (v : Verdict) → judged (openCauses t c n) ≡ v → meetsRules (decideOf t c n .opened .table) ≡ true
+      go granted e = ap (λ d. meetsRules (d .opened .table)) (decided granted e) ∙ serves e .kept .rules
+      go (refused r) e = ap (λ d. meetsRules (d .opened .table)) (decided (refused r) e) ∙ rules
+
+  -- the looks answered are never above 8,256
+  pub open-looks : (p k looks : ℕ) → openingAnswer (decideOf t c n .opened .answer) ≡ record { number = 0; values = p ∷ k ∷ looks ∷ [] } → looks ≤ 8256
+  open-looks p k looks h = go (judged (openCauses t c n)) refl
+    where
+      -- the third value is the looks
+      third : (v : Verdict) → judged (openCauses t c n) ≡ v → getD (openingAnswer (decidedBy t c v .opened .answer) .values) 2 0 ≡ looks
+      third v e = ap (λ (a : Answer). getD (a .values) 2 0) (rw (decided v e) at h)
+
+      go : (v : Verdict) → judged (openCauses t c n) ≡ v → looks ≤ 8256
+      go granted e = rw (← third granted e) (plan-looks (t .nodes) (limitOf (t .ports)) (t .channels) c (open-ready e))
+      go (refused r) e = omega (arith, third (refused r) e)
+
+-- what a request names is in order where the first causes do not meet it
+pub named-granted : (N : ℕ) (c : Circuit) (n : ℕ) (v : Verdict) → v ≡ judged ((ShortList if ltb n leastRecords) ∷ namedCauses N c) → v ≡ granted
+    → judged (namedCauses N c) ≡ granted
+named-granted N c n v e h = granted-rest (ShortList if ltb n leastRecords) (namedCauses N c) (sym e ∙ h)
+
+-- a request that names two nodes of the ring, by the survey v of the places below the limit m
+module _ (t : RingTable) (c : Circuit) (rules : meetsRules t ≡ true) (m : ℕ) (limit : m ≡ limitOf (t .ports)) where
+  -- the places can be surveyed
+  pub survey-some : 0 < t .nodes
+  survey-some = some-nodes t rules
+
+  pub survey-low : m ≤ placeCount
+  survey-low = omega (arith, limit, table-limits t rules .below)
+
+  module _ (v : Survey) (seen : v ≡ surveyOf (t .nodes) m (t .channels) c) (w : Verdict)
+      (is : w ≡ judged (
+      (NumberLive if ltb 0 (v .numbered))
+      ∷ (NoTransmitter if not (ltb (v .sent) (portsAt (t .ports) (c .source))))
+      ∷ (NoReceiver if not (ltb (v .received) (portsAt (t .ports) (c .destination))))
+      ∷ []
+      )) where
+    -- what was seen judges as what is in use does
+    in-use : w ≡ judged (usedCauses t c)
+    in-use = rw seen at is
+
+    pub used-refused : (r : Refusal) (d : Decision) → w ≡ refused r → d ≡ refusing t r → d ≡ decidedBy t c (judged (usedCauses t c))
+    used-refused r d h k = rw (← in-use, h) k
+
+    pub used-granted : (d : Decision) → w ≡ granted → d ≡ carriedOut t (planned t c) → d ≡ decidedBy t c (judged (usedCauses t c))
+    used-granted d h k = rw (← in-use, h) k
+
+    -- one that is granted is ready for the steps
+    pub used-ready : judged (namedCauses (t .nodes) c) ≡ granted → w ≡ granted → Ready (t .nodes) m (t .channels) c
+    used-ready named h =
+        let all = judged-past (namedCauses (t .nodes) c) (usedCauses t c) named ∙ sym in-use ∙ h in
+        rw limit (ready (t .nodes) (t .ports) (t .channels) c (table-rules t rules) (allowable t c all))
+
+-- for `search (needs, deciding)`
+pub ruleset deciding = (decide-refused, decide-granted, named-granted, survey-some, survey-low, used-refused, used-granted, used-ready)

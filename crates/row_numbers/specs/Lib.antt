@@ -1,0 +1,2 @@
+-- The numbers of the picture's rows.
+pub mod Numbers

@@ -1,0 +1,64 @@
+-- `saved_forms::run_read_file` meets its contract. Assumes nothing.
+use borrow.Author.Needs.{needs}
+use Rattle.saved_forms.proofs.Forms.{forms}
+use Rattle.buffer.proofs.Appending.{one-text}
+use Rattle.basis.proofs.Arrays.{lent-counted}
+use Rattle.saved_forms.proofs.run_read_file.Statement.{statement}
+use Rattle.saved_forms.proofs.run_read_file.Tie as tie
+
+slice-aggregate-read-file : tie.Need-slice-aggregate-read-file
+slice-aggregate-read-file c = search (needs, one-text, forms)
+
+read-file-requires : tie.Need-read-file-requires
+read-file-requires c κs = search (needs, one-text, forms)
+
+enum-known-read : tie.Need-enum-known-read
+enum-known-read c = search (needs, one-text, forms, lent-counted)
+
+array-share-prefix-form : tie.Need-array-share-prefix-form
+array-share-prefix-form c = search (needs, one-text, forms)
+
+slice-aggregate-take-form : tie.Need-slice-aggregate-take-form
+slice-aggregate-take-form c = search (needs, one-text, forms, lent-counted)
+
+take-form-requires : tie.Need-take-form-requires
+take-form-requires c κs = search (needs, one-text, forms)
+
+enum-told : tie.Need-enum-told
+enum-told c = search (needs, one-text, forms, lent-counted)
+
+slice-aggregate-put-text : tie.Need-slice-aggregate-put-text
+slice-aggregate-put-text c = search (needs, one-text, forms)
+
+put-text-requires : tie.Need-put-text-requires
+put-text-requires c κs = search (needs, one-text, forms, lent-counted)
+
+same-length : tie.Need-same-length
+same-length c = search (needs, one-text, forms, lent-counted)
+
+returns : tie.Need-returns
+returns c = search (needs, one-text, forms)
+
+same-length-2 : tie.Need-same-length-2
+same-length-2 c = search (needs, one-text, forms, lent-counted)
+
+returns-2 : tie.Need-returns-2
+returns-2 c = search (needs, one-text, forms, lent-counted)
+
+pub run-read-file-spec : {M : Type 1} → statement M
+run-read-file-spec =
+    tie.close
+    (tie.spec
+    slice-aggregate-read-file
+    read-file-requires
+    enum-known-read
+    array-share-prefix-form
+    slice-aggregate-take-form
+    take-form-requires
+    enum-told
+    slice-aggregate-put-text
+    put-text-requires
+    same-length
+    returns
+    same-length-2
+    returns-2)

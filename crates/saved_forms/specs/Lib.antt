@@ -1,0 +1,2 @@
+-- Saved forms in lent bytes.
+pub mod Saved

@@ -1,0 +1,2 @@
+-- The laws of what one place holds.
+pub mod Contents
