@@ -11,10 +11,10 @@ use ring::RingTable;
 // The most bytes of a line's answer: an opening's is the longest.
 pub const ANSWER_ROOM: usize = OPENING_ROOM;
 
-// The order desk: the table, once a ring was accepted.
+// The order desk: the table, once a ring was accepted. The table comes first, as its places do in it: its copies are whole.
 pub struct Desk {
-    pub ready: bool,
     pub table: RingTable,
+    pub ready: bool,
 }
 
 // The desk after a line, and the position after its answer.

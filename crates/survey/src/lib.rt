@@ -2,11 +2,13 @@
 // that of two circuits that the new one can join it keeps the lower. Every circuit counts, and only those below the limit are joined.
 
 ghost use mathlib.Core.Path.{_≡_};
-ghost use mathlib.Core.Bool.{_&&_, _||_};
+ghost use mathlib.Core.Bool.{true, _&&_, _||_};
 ghost use Prim.Native.Nat.{_<_, _≤_};
 ghost use lib.Dec.{ltb};
 ghost use Rattle.basis.specs.Choice.{pick};
 ghost use Rattle.limits.specs.Limits.{placeCount};
+ghost use Rattle.lit_words.specs.Lit.{noneLitFrom};
+ghost use Rattle.channels.specs.Channels.{litAt};
 ghost use Rattle.steps.specs.Steps.{canJoin};
 ghost use Rattle.survey.specs.Survey.{surveyOf, unlitBy, passWith, Takes};
 use channels::Channel;
@@ -105,14 +107,15 @@ impl Survey {
     }
 }
 
-// What a new circuit has to know of the places.
+// What a new circuit has to know of the places. Those from `bound` up are known to be unlit, and are not looked at.
 pub fn survey_places(
     nodes: u8,
     limit: usize,
+    bound: usize,
     channels: [Channel; PLACE_COUNT],
     circuit: Circuit,
 ) -> Survey
-    requires { ⌜ (0 < nodes) × (limit ≤ placeCount) ⌝ }
+    requires { ⌜ (0 < nodes) × (limit ≤ placeCount) × (bound ≤ placeCount) × (noneLitFrom bound (litAt channels) ≡ true) ⌝ }
     ensures { λ r. ⌜ r ≡ surveyOf nodes limit channels circuit ⌝ }
 {
     let mut seen = Pass {
@@ -122,7 +125,7 @@ pub fn survey_places(
         join: limit,
         lit: Lit { low: 0, high: 0 },
     };
-    let mut place: usize = PLACE_COUNT;
+    let mut place: usize = bound;
     while 0 < place {
         place -= 1;
         let channel = channels[place];
