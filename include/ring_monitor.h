@@ -17,8 +17,12 @@
 extern "C" {
 #endif
 
-/* The version of this interface: it changes when a form, an answer or a refusal number does. */
-#define RING_MONITOR_VERSION 1
+/*
+ * The version of this interface: it changes when a form, an answer or a refusal number does. Every form that version 1
+ * answers for has the same answers in version 2. A ring saved by the controller may have a circuit and its return at a
+ * counterclockwise place, which an archive of version 1 refuses by 33: link monitors anew first.
+ */
+#define RING_MONITOR_VERSION 2
 
 /* The most bytes that a saved form has. A longer sequence of bytes is refused like any other that is no form. */
 #define RING_FORM_MOST 1745

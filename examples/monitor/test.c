@@ -12,6 +12,15 @@
 /* The ring at the end of document 01's script: 5 nodes, a port at each, wavelengths 0 and 1. */
 static const uint8_t script_form[] = {
     5, 1, 1, 1, 1, 1,
+    0x0b, 0, 0, 0, 0, 0, 0, 0, 0, 0, 0, 0, 0, 0, 0, 0,
+    0, 0, 0, 0, 11, 1, 5,                     /* place 0: 11 from 1 to 5 */
+    2, 0, 0, 0, 12, 2, 3, 0, 0, 0, 14, 3, 2,  /* place 1: 12 from 2 to 3, 14 from 3 to 2 */
+    2, 0, 0, 0, 15, 5, 4, 0, 0, 0, 16, 4, 1   /* place 3: 15 from 5 to 4, 16 from 4 to 1 */
+};
+
+/* The same circuits as they stood where 12 and its return 14 could share clockwise only. */
+static const uint8_t before_form[] = {
+    5, 1, 1, 1, 1, 1,
     0x0f, 0, 0, 0, 0, 0, 0, 0, 0, 0, 0, 0, 0, 0, 0, 0,
     0, 0, 0, 0, 12, 2, 3,                     /* place 0: 12 from 2 to 3 */
     2, 0, 0, 0, 11, 1, 5, 0, 0, 0, 16, 4, 1,  /* place 1: 11 from 1 to 5, 16 from 4 to 1 */
@@ -39,28 +48,42 @@ static void expect(const char *what, uint64_t answer, uint64_t right)
     }
 }
 
-/* Each link, wavelength and direction of the ring of document 01's script. */
-static void every_link(void)
+/* Each link, wavelength and direction of a ring of 5 nodes with two wavelengths. */
+static void every_link(const char *ring, const uint8_t *form, size_t length, const uint64_t right[5][2][2])
+{
+    char what[96];
+    int l, w, d;
+
+    for (l = 0; l < 5; l++) {
+        for (w = 0; w < 2; w++) {
+            for (d = 0; d < 2; d++) {
+                snprintf(what, sizeof what, "%s: link %d wavelength %d direction %d", ring, l + 1, w, d);
+                expect(what, ring_link(form, length, (uint64_t) l + 1, (uint64_t) w, (uint64_t) d), right[l][w][d]);
+            }
+        }
+    }
+}
+
+static void rings(void)
 {
     const uint64_t none = RING_NONE;
-    const uint64_t right[5][2][2] = {
+    const uint64_t script[5][2][2] = {
+        { { 11, 12 }, { none, 16 } },
+        { { 11, 14 }, { none, 16 } },
+        { { 11, 12 }, { none, 16 } },
+        { { 11, 12 }, { none, 15 } },
+        { { none, 12 }, { none, none } }
+    };
+    const uint64_t before[5][2][2] = {
         { { none, 16 }, { 15, none } },
         { { 12, 16 }, { 15, 14 } },
         { { none, 16 }, { 15, none } },
         { { none, none }, { none, none } },
         { { none, 11 }, { 15, none } }
     };
-    char what[64];
-    int l, w, d;
 
-    for (l = 0; l < 5; l++) {
-        for (w = 0; w < 2; w++) {
-            for (d = 0; d < 2; d++) {
-                snprintf(what, sizeof what, "link %d wavelength %d direction %d", l + 1, w, d);
-                expect(what, ring_link(script_form, sizeof script_form, (uint64_t) l + 1, (uint64_t) w, (uint64_t) d), right[l][w][d]);
-            }
-        }
-    }
+    every_link("script", script_form, sizeof script_form, script);
+    every_link("before", before_form, sizeof before_form, before);
 }
 
 /* What the numbers of a question are refused for, in which order; nothing wraps into a good number. */
@@ -120,14 +143,15 @@ static void forms(void)
     expect("2 nodes", damaged(script_form, sizeof script_form, 0, 2), RING_NONE + RING_NODE_COUNT);
     expect("65 nodes", damaged(script_form, sizeof script_form, 0, 65), RING_NONE + RING_NODE_COUNT);
     expect("65 ports", damaged(script_form, sizeof script_form, 1, 65), RING_NONE + RING_PORT_COUNT);
-    expect("place 4 lit", damaged(script_form, sizeof script_form, 6, 0x1f), RING_NONE + RING_BAD_FIELD);
+    expect("place 4 lit", damaged(script_form, sizeof script_form, 6, 0x1b), RING_NONE + RING_BAD_FIELD);
     expect("field map bit 3", damaged(script_form, sizeof script_form, 22, 8), RING_NONE + RING_BAD_FIELD);
     expect("remark of a second that is not there", damaged(script_form, sizeof script_form, 22, 4), RING_NONE + RING_BAD_FIELD);
     expect("remark of 0", damaged(edge_form, sizeof edge_form, 28, 0), RING_NONE + RING_BAD_FIELD);
-    expect("to itself", damaged(script_form, sizeof script_form, 28, 2), RING_NONE + RING_BROKEN_FORM);
+    expect("to itself", damaged(script_form, sizeof script_form, 28, 1), RING_NONE + RING_BROKEN_FORM);
     expect("off the ring", damaged(script_form, sizeof script_form, 28, 6), RING_NONE + RING_BROKEN_FORM);
     expect("a number twice", damaged(script_form, sizeof script_form, 26, 14), RING_NONE + RING_BROKEN_FORM);
     expect("higher number first", damaged(script_form, sizeof script_form, 33, 17), RING_NONE + RING_BROKEN_FORM);
+    expect("two that cannot share there", damaged(script_form, sizeof script_form, 6, 0x07), RING_NONE + RING_BROKEN_FORM);
 }
 
 /* More than 192 ports: 4 nodes with 64, 64, 64 and 1. */
@@ -141,7 +165,7 @@ static void many_ports(void)
 
 int main(void)
 {
-    every_link();
+    rings();
     numbers();
     forms();
     many_ports();

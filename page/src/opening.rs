@@ -1,7 +1,7 @@
 //! An opening in words: where the new circuit went, and why others moved.
 
 use crate::step::{Move, Step};
-use crate::table::{Circuit, Direction, Table};
+use crate::table::{Circuit, Table};
 use crate::words::{capital, count, listed, ordinal, spelled, Telling};
 
 pub fn tell(step: &Step, number: u32, moves: &[Move], looks: u32) -> Telling {
@@ -162,12 +162,13 @@ impl Rearranged<'_> {
 
     /// Why the pair shares the way round that it does.
     fn direction(&self) -> String {
+        let stood = self.stood();
+        if self.there_and_back() {
+            return format!("A pair that runs there and back can share either way round. {stood}");
+        }
         let way = self.a.direction();
         let clash = self.a.common_links(self.b, way.opposite(), self.after.nodes());
         let why = match clash[..] {
-            [] if way == Direction::Clockwise => {
-                "A pair that runs there and back shares clockwise only. ".into()
-            }
             [] => String::new(),
             _ => format!(
                 "{} both would need {}, so there they cannot share. ",
@@ -175,23 +176,32 @@ impl Rearranged<'_> {
                 links_in_words(&clash)
             ),
         };
-        format!("{why}{} they have no link in common. {}", capital(way.word()), self.stood())
+        format!("{why}{} they have no link in common. {stood}", capital(way.word()))
+    }
+
+    fn there_and_back(&self) -> bool {
+        there_and_back(self.a, self.b)
     }
 
     /// Which way the old members of the pair stood, and so who had to move.
     fn stood(&self) -> String {
         let way = self.a.direction();
-        let (to, fro) = (way.word(), way.opposite().word());
+        let fro = way.opposite().word();
+        let right = if self.there_and_back() { "where they fit" } else { way.word() };
         let old = [self.a, self.b].into_iter().filter_map(|new| self.before.find(new.number));
         let (fitting, other): (Vec<&Circuit>, Vec<&Circuit>) =
-            old.partition(|circuit| circuit.direction() == way);
+            old.partition(|circuit| self.there_and_back() || circuit.direction() == way);
         match (&fitting[..], &other[..]) {
-            ([a, b], _) => format!(
-                "Both stood {to} already (places {} and {}), so only one had to move.",
-                a.place, b.place
-            ),
+            ([a, b], _) => {
+                let (low, high) = (a.place.min(b.place), a.place.max(b.place));
+                let kept = if self.a.place == low { "lower" } else { "higher" };
+                format!(
+                    "Both stood {right} already (places {low} and {high}), so only one had to \
+                     move: the {kept} place stayed."
+                )
+            }
             ([a], _) => format!(
-                "{} stood {to} already (place {}), so only the other had to move.",
+                "{} stood {right} already (place {}), so only the other had to move.",
                 a.number, a.place
             ),
             (_, [a, b]) => format!(
@@ -249,16 +259,19 @@ impl Rearranged<'_> {
 
 /// Where one of two circuits ends and the other begins.
 fn meeting(a: &Circuit, b: &Circuit) -> String {
-    match (a.destination == b.source, b.destination == a.source) {
-        (true, true) => format!(
+    if there_and_back(a, b) {
+        return format!(
             "{} and {} run there and back between nodes {} and {}",
             a.number, b.number, a.source, a.destination
-        ),
-        (true, false) => {
-            format!("{} ends at node {}, where {} begins", a.number, b.source, b.number)
-        }
-        _ => format!("{} ends at node {}, where {} begins", b.number, a.source, a.number),
+        );
     }
+    let (ends, begins) = if a.destination == b.source { (a, b) } else { (b, a) };
+    format!("{} ends at node {}, where {} begins", ends.number, begins.source, begins.number)
+}
+
+/// Whether each of two circuits begins where the other ends.
+fn there_and_back(a: &Circuit, b: &Circuit) -> bool {
+    a.destination == b.source && b.destination == a.source
 }
 
 fn links_in_words(links: &[u8]) -> String {

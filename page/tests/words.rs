@@ -98,24 +98,60 @@ fn a_pair_that_stands_the_right_way_already() {
     assert_eq!(
         told.reasons[2],
         "Counterclockwise both would need link 2, so there they cannot share. Clockwise they have \
-         no link in common. Both stood clockwise already (places 0 and 4), so only one had to move."
+         no link in common. Both stood clockwise already (places 0 and 4), so only one had to move: \
+         the lower place stayed."
     );
     assert_eq!(told.reasons[4], "109 took place 4, which 107 left. One move in all: 107.");
 }
 
+fn on_six(request: &str, answer: &str, before: &[Row], after: &[Row]) -> Telling {
+    let ring = |rows| Some(table(&[1; 6], rows));
+    tell(&step(request, answer, ring(before), ring(after)))
+}
+
 #[test]
-fn a_pair_there_and_back_shares_clockwise_only() {
-    let ring = |rows: &[Row]| Some(table(&[2, 2, 2], rows));
-    let told = tell(&step(
-        "open 5 3 2 0",
-        "open 5 place 3 moves 3 looks 1\nmove 2 from 0 to 1\nmove 1 from 1 to 0\nmove 3 from 3 to 0",
-        ring(&[(2, 3, 1, 0), (1, 1, 2, 1), (4, 2, 3, 2), (3, 2, 1, 3)]),
-        ring(&[(1, 1, 2, 0), (3, 2, 1, 0), (2, 3, 1, 1), (4, 2, 3, 2), (5, 3, 2, 3)]),
-    ));
+fn a_pair_there_and_back_can_share_either_way() {
+    let before = [(3, 1, 4, 0), (4, 4, 5, 0), (1, 2, 3, 1), (2, 3, 2, 2), (5, 5, 6, 3)];
+    let told = on_six(
+        "open 6 6 1 0",
+        "open 6 place 2 moves 1 looks 1\nmove 2 from 2 to 1",
+        &before,
+        &with(&before, &[(2, 3, 2, 1), (6, 6, 1, 2)]),
+    );
     assert_eq!(
-        told.reasons[2],
-        "A pair that runs there and back shares clockwise only. Clockwise they have no link in \
-         common. But both stood counterclockwise (places 1 and 3), so both had to move."
+        told.point,
+        "No place was free: circuits 1 and 2 were put together, one move. Circuit 6 is at place 2."
+    );
+    assert_eq!(
+        told.reasons[1..],
+        [
+            "Pairs of the circuits that stood alone, 6 among them, were looked at in order. The 1st \
+             pair, 1 and 2, was the first in which one ends where the other begins: 1 and 2 run \
+             there and back between nodes 2 and 3.",
+            "A pair that runs there and back can share either way round. Both stood where they fit already \
+             (places 1 and 2), so only one had to move: the lower place stayed.",
+            "2 moved from place 2 to place 1. There the two share.",
+            "6 took place 2, which 2 left. One move in all: 2.",
+        ]
+    );
+}
+
+#[test]
+fn a_pair_there_and_back_that_stood_one_way() {
+    let before = [(3, 4, 6, 0), (4, 6, 1, 0), (2, 3, 2, 1), (5, 1, 5, 2), (1, 2, 3, 3)];
+    let told = on_six(
+        "open 6 5 4 0",
+        "open 6 place 3 moves 1 looks 2\nmove 1 from 3 to 1",
+        &before,
+        &with(&before, &[(1, 2, 3, 1), (6, 5, 4, 3)]),
+    );
+    assert_eq!(
+        told.reasons[2..4],
+        [
+            "A pair that runs there and back can share either way round. Both stood where they fit already \
+             (places 1 and 3), so only one had to move: the lower place stayed.",
+            "1 moved from place 3 to place 1. There the two share.",
+        ]
     );
 }
 
@@ -134,21 +170,32 @@ fn a_circuit_that_joins_names_where_the_two_meet() {
         joins("open 111 5 4 0", (111, 5, 4, 1)),
         "Circuit 111 joined circuit 101 at place 1: 101 ends at node 5, where 111 begins."
     );
-    let back = on_filling(
-        "open 112 2 1 0",
-        "open 112 place 0 moves 0 looks 0",
-        &[(104, 1, 2, 0)],
-        &[(104, 1, 2, 0), (112, 2, 1, 0)],
-    );
+}
+
+#[test]
+fn a_circuit_joins_its_return_either_way() {
+    let back = |place: u8| {
+        on_filling(
+            "open 112 2 1 0",
+            &format!("open 112 place {place} moves 0 looks 0"),
+            &[(104, 1, 2, place)],
+            &[(104, 1, 2, place), (112, 2, 1, place)],
+        )
+    };
     assert_eq!(
-        back.point,
+        back(0).point,
         "Circuit 112 joined circuit 104 at place 0: 104 and 112 run there and back between nodes 1 \
          and 2."
     );
     assert_eq!(
-        back.reasons[0],
+        back(0).reasons[0],
         "104 stood alone at place 0, which runs clockwise. There 104 uses link 1, and 112 uses \
          links 2, 3, 4, 5 and 6: no link in common, so one wavelength carries both."
+    );
+    assert_eq!(
+        back(3).reasons[0],
+        "104 stood alone at place 3, which runs counterclockwise. There 104 uses links 2, 3, 4, 5 \
+         and 6, and 112 uses link 1: no link in common, so one wavelength carries both."
     );
 }
 

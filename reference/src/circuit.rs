@@ -22,6 +22,11 @@ impl Circuit {
         self.destination == other.source || other.destination == self.source
     }
 
+    /// Whether the two run there and back between the same nodes: adjacent, with N hops in total.
+    pub fn is_return_of(self, other: Circuit) -> bool {
+        self.source == other.destination && self.destination == other.source
+    }
+
     /// Whether the circuit, set up in this direction, runs over the link.
     pub fn uses_link(self, link: u8, direction: Direction, nodes: u8) -> bool {
         let links_past_source = (link + nodes - self.source) % nodes;
@@ -30,14 +35,14 @@ impl Circuit {
     }
 }
 
-/// Whether the two are adjacent and can share in this direction; hops of exactly N in total count
-/// as clockwise only.
+/// Whether the two are adjacent and can share in this direction: with fewer hops than N in total
+/// clockwise, with more counterclockwise, and with exactly N in both directions.
 pub fn can_share(nodes: u8, direction: Direction, a: Circuit, b: Circuit) -> bool {
     let total = || a.hops(nodes) + b.hops(nodes);
     a.is_adjacent_to(b)
         && match direction {
             Direction::Clockwise => total() <= nodes,
-            Direction::Counterclockwise => total() > nodes,
+            Direction::Counterclockwise => total() >= nodes,
         }
 }
 
@@ -51,14 +56,23 @@ mod tests {
     }
 
     #[test]
-    fn pairs_of_document_01() {
+    fn pairs_of_the_papers() {
         assert_eq!(sharing_directions(5, circuit(1, 4), circuit(4, 2)), [Counterclockwise]);
         assert_eq!(sharing_directions(5, circuit(1, 3), circuit(3, 4)), [Clockwise]);
-        assert_eq!(sharing_directions(5, circuit(2, 3), circuit(3, 2)), [Clockwise]);
         assert_eq!(sharing_directions(5, circuit(1, 3), circuit(2, 3)), []);
         assert!(circuit(1, 4).is_adjacent_to(circuit(4, 2)));
         assert!(circuit(4, 2).is_adjacent_to(circuit(1, 4)));
         assert!(!circuit(1, 3).is_adjacent_to(circuit(2, 3)));
+        let there_and_back = sharing_directions(5, circuit(2, 3), circuit(3, 2));
+        assert_eq!(there_and_back, [Clockwise, Counterclockwise]);
+    }
+
+    #[test]
+    fn a_total_next_to_n_is_shared_one_way() {
+        assert_eq!(sharing_directions(5, circuit(2, 4), circuit(4, 1)), [Clockwise]);
+        assert_eq!(sharing_directions(5, circuit(2, 4), circuit(4, 3)), [Counterclockwise]);
+        assert_eq!(sharing_directions(64, circuit(1, 64), circuit(63, 1)), [Counterclockwise]);
+        assert_eq!(sharing_directions(64, circuit(1, 63), circuit(64, 1)), [Clockwise]);
     }
 
     fn sharing_directions(nodes: u8, a: Circuit, b: Circuit) -> Vec<Direction> {
@@ -84,12 +98,10 @@ mod tests {
     }
 
     #[test]
-    fn an_adjacent_pair_has_no_link_in_common_where_it_can_share() {
+    fn two_have_no_link_in_common_where_they_can_share() {
         for nodes in 3..=9 {
-            for (a, b) in adjacent_pairs(nodes) {
-                let directions = sharing_directions(nodes, a, b);
-                assert!(!directions.is_empty(), "{a:?} {b:?} on {nodes} nodes");
-                for direction in directions {
+            for (a, b) in pairs(nodes) {
+                for direction in sharing_directions(nodes, a, b) {
                     let uses = |c: Circuit, link| c.uses_link(link, direction, nodes);
                     let common = |&link: &u8| uses(a, link) && uses(b, link);
                     assert_eq!((1..=nodes).find(common), None, "{a:?} {b:?} on {nodes} nodes");
@@ -98,16 +110,26 @@ mod tests {
         }
     }
 
-    fn adjacent_pairs(nodes: u8) -> Vec<(Circuit, Circuit)> {
+    #[test]
+    fn adjacent_pairs_can_share_and_in_both_directions_exactly_there_and_back() {
+        for nodes in 3..=9 {
+            for (a, b) in pairs(nodes) {
+                let directions = sharing_directions(nodes, a, b).len();
+                let is_total_n = a.is_adjacent_to(b) && a.hops(nodes) + b.hops(nodes) == nodes;
+                assert_eq!(directions > 0, a.is_adjacent_to(b), "{a:?} {b:?} on {nodes} nodes");
+                assert_eq!(directions == 2, is_total_n, "{a:?} {b:?} on {nodes} nodes");
+                assert_eq!(a.is_return_of(b), is_total_n, "{a:?} {b:?} on {nodes} nodes");
+            }
+        }
+    }
+
+    /// Every circuit of a ring with every one, in both orders.
+    fn pairs(nodes: u8) -> Vec<(Circuit, Circuit)> {
         let mut circuits = Vec::new();
         for source in 1..=nodes {
             circuits
                 .extend((1..=nodes).filter(|&end| end != source).map(|end| circuit(source, end)));
         }
-        let mut pairs = Vec::new();
-        for &a in &circuits {
-            pairs.extend(circuits.iter().filter(|b| a.is_adjacent_to(**b)).map(|&b| (a, b)));
-        }
-        pairs
+        circuits.iter().flat_map(|&a| circuits.iter().map(move |&b| (a, b))).collect()
     }
 }

@@ -1,5 +1,5 @@
-//! The second ring controller: written from document 01 and source document 000 alone,
-//! so that the proved controller can be compared with it on long scripts.
+//! The second ring controller: written from the papers alone, so that the proved controller can be
+//! compared with it on long scripts.
 
 pub mod arguments;
 pub mod circuit;

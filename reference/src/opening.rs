@@ -1,4 +1,4 @@
-//! Opening a circuit: Algorithm 1 of source document 000 with the choices of document 01.
+//! Opening a circuit: Algorithm 1 of source document 000 with the choices of documents 01 and 02.
 
 use crate::circuit::{can_share, Circuit};
 use crate::place::Place;

@@ -1,6 +1,6 @@
 //! Directions, wavelengths and directed wavelength places.
 
-#[derive(Clone, Copy, PartialEq, Eq, Debug)]
+#[derive(Clone, Copy, PartialEq, Eq, PartialOrd, Ord, Debug)]
 pub enum Direction {
     Clockwise,
     Counterclockwise,

@@ -257,11 +257,17 @@ impl Table {
             .all(|(place, first, second)| can_share(self.nodes, place.direction(), first, second))
     }
 
-    /// The places with two circuits, and these.
-    fn pairs(&self) -> impl Iterator<Item = (Place, Circuit, Circuit)> + '_ {
-        (0u8..).zip(&self.channels).filter_map(|(place, channel)| match *channel {
-            Channel::Two(first, second) => Some((Place(place), first, second)),
+    /// The two circuits that share the place, if two do.
+    pub(crate) fn pair_at(&self, place: Place) -> Option<(Circuit, Circuit)> {
+        match self.channels[place.index()] {
+            Channel::Two(first, second) => Some((first, second)),
             _ => None,
-        })
+        }
+    }
+
+    /// The places with two circuits, and these.
+    pub(crate) fn pairs(&self) -> impl Iterator<Item = (Place, Circuit, Circuit)> + '_ {
+        let places = (0..PLACES as u8).map(Place);
+        places.filter_map(|place| self.pair_at(place).map(|(first, second)| (place, first, second)))
     }
 }

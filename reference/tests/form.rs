@@ -2,7 +2,7 @@
 
 mod common;
 
-use common::{circuit, open, ring, tables};
+use common::{circuit, open, ring, ring_of_01, standing, tables};
 use ring::circuit::Circuit;
 use ring::form::{read, write, FORM_MOST};
 use ring::generator::Kind;
@@ -165,4 +165,68 @@ fn a_form_that_breaks_a_ring_rule() {
     assert_eq!(second(12, 5, 4), Err(Refusal::FormRules), "not in this direction");
     assert_eq!(second(12, 5, 5), Err(Refusal::FormRules), "equal ends");
     assert_eq!(changed(|form| form[1] = 0), Err(Refusal::FormRules), "no port");
+}
+
+/// A ring of five nodes with a port each, of which these places of the first eight are lit.
+fn form_of_five(lit: u8, records: &[&[u8]]) -> Vec<u8> {
+    let mut form = vec![5, 1, 1, 1, 1, 1, lit];
+    form.extend([0; 15]);
+    form.extend(records.concat());
+    form
+}
+
+#[test]
+fn a_circuit_and_its_return_are_read_at_every_place() {
+    for place in 0..4 {
+        let record = [2, 0, 0, 0, 12, 2, 3, 0, 0, 0, 14, 3, 2];
+        let form = form_of_five(1 << place, &[&record]);
+        let table = standing(&[1; 5], &[(place, circuit(12, 2, 3)), (place, circuit(14, 3, 2))]);
+        assert_eq!(read(&form), Ok(table.clone()));
+        assert_eq!(form_of(&table), form);
+    }
+}
+
+#[test]
+fn two_with_other_hops_are_read_at_places_of_one_direction() {
+    // 2→4 with 4→1 totals 4, with 4→3 it totals 6.
+    let record = |destination| [2, 0, 0, 0, 1, 2, 4, 0, 0, 0, 2, 4, destination];
+    for place in 0..4 {
+        let read_at = |destination| read(&form_of_five(1 << place, &[&record(destination)]));
+        let (fewer, more) = (read_at(1), read_at(3));
+        let (good, refused) = if place % 2 == 0 { (fewer, more) } else { (more, fewer) };
+        assert!(good.is_ok(), "place {place}");
+        assert_eq!(refused, Err(Refusal::FormRules), "place {place}");
+    }
+}
+
+/// Document 01's own tables before 15 and at the end, in which 12 and its return 14 stand alone.
+#[test]
+fn forms_of_the_release_before_are_read() {
+    let before_15 = form_of_five(
+        0b1111,
+        &[
+            &[0, 0, 0, 0, 11, 1, 5],
+            &[0, 0, 0, 0, 12, 2, 3],
+            &[0, 0, 0, 0, 13, 4, 1],
+            &[0, 0, 0, 0, 14, 3, 2],
+        ],
+    );
+    assert_eq!(read(&before_15), Ok(ring_of_01()));
+    let after_16 = form_of_five(
+        0b1111,
+        &[
+            &[0, 0, 0, 0, 12, 2, 3],
+            &[2, 0, 0, 0, 11, 1, 5, 0, 0, 0, 16, 4, 1],
+            &[0, 0, 0, 0, 15, 5, 4],
+            &[0, 0, 0, 0, 14, 3, 2],
+        ],
+    );
+    let circuits = [
+        (0, circuit(12, 2, 3)),
+        (1, circuit(11, 1, 5)),
+        (1, circuit(16, 4, 1)),
+        (2, circuit(15, 5, 4)),
+        (3, circuit(14, 3, 2)),
+    ];
+    assert_eq!(read(&after_16), Ok(standing(&[1; 5], &circuits)));
 }

@@ -3,6 +3,7 @@
 use ring::comparison::Expected;
 use ring::coverage::{Coverage, Event};
 use ring::generator::{script, Generator, Kind};
+use ring::place::Direction::{Clockwise, Counterclockwise};
 use ring::plan::{parse, Command, Question, Source};
 use ring::program::Program;
 
@@ -11,6 +12,15 @@ const KINDS: [Kind; 4] = [Kind::Small, Kind::Large, Kind::Mixed, Kind::Light];
 
 fn coverage(program: Program, kind: Kind, seed: u64, lines: u64) -> Coverage {
     Expected::of(program, &script(program, kind, seed, lines)).coverage
+}
+
+/// The coverage of the scripts with seeds from 1 to the last.
+fn coverage_to(last_seed: u64, program: Program, kind: Kind, lines: u64) -> Coverage {
+    let mut reached = Coverage::of(program);
+    for seed in 1..=last_seed {
+        reached.add(&coverage(program, kind, seed, lines));
+    }
+    reached
 }
 
 #[test]
@@ -45,31 +55,32 @@ fn scripts_have_the_lines_asked_for() {
 
 #[test]
 fn mixed_scripts_reach_every_step_and_refusal() {
-    let mut reached = Coverage::of(Program::Script);
-    for seed in 1..=4 {
-        reached.add(&coverage(Program::Script, Kind::Mixed, seed, 5000));
-    }
+    let reached = coverage_to(8, Program::Script, Kind::Mixed, 5000);
     assert_eq!(reached.missing(), []);
 }
 
 #[test]
 fn mixed_plan_scripts_reach_every_kind_of_line_answer_and_refusal() {
-    let mut reached = Coverage::of(Program::Plan);
-    for seed in 1..=60 {
-        reached.add(&coverage(Program::Plan, Kind::Mixed, seed, 600));
-    }
+    let reached = coverage_to(60, Program::Plan, Kind::Mixed, 600);
     assert_eq!(reached.missing(), []);
 }
 
 #[test]
 fn small_and_large_scripts_reach_every_step() {
     for kind in [Kind::Small, Kind::Large] {
-        let reached = coverage(Program::Script, kind, 2, 20_000);
+        let reached = coverage_to(3, Program::Script, kind, 20_000);
         for step in [Event::Step3aBothFit, Event::Step3aFirstFits, Event::Step3aSecondFits] {
-            assert!(reached.count(step) > 10, "{kind:?} {step}");
+            assert!(reached.count(step) > 30, "{kind:?} {step}");
         }
         for step in [Event::Step3bWithNew, Event::Step3bOld, Event::Step3bOverShared] {
-            assert!(reached.count(step) > 5, "{kind:?} {step}");
+            assert!(reached.count(step) > 15, "{kind:?} {step}");
+        }
+        for way in [Clockwise, Counterclockwise] {
+            assert!(reached.count(Event::Step1Return(way)) > 500, "{kind:?} {way:?}");
+            for moved in [Clockwise, Counterclockwise] {
+                let step = Event::Step3aReturn { stayed: way, moved };
+                assert!(reached.count(step) > 2, "{kind:?} {step}");
+            }
         }
     }
 }

@@ -5,7 +5,7 @@ mod common;
 use common::{circuit, open, ring};
 use ring::circuit::Circuit;
 use ring::refusal::Refusal;
-use ring::table::{wavelengths_for, Channel, Table};
+use ring::table::{wavelengths_for, Channel, Rule, Table};
 
 #[test]
 fn wavelengths_are_a_third_of_the_ports_rounded_up() {
@@ -78,9 +78,23 @@ fn each_ring_rule_can_be_broken() {
         at(0, Channel::Two(two, one)),
         at(0, Channel::Two(one, circuit(2, 4, 5))),
         at(0, Channel::Two(one, circuit(2, 3, 2))),
-        at(1, Channel::Two(circuit(5, 2, 3), circuit(6, 3, 2))),
+        at(1, Channel::Two(circuit(5, 2, 3), circuit(6, 3, 4))),
     ];
     for (case, table) in tables.iter().enumerate() {
         assert!(!table.meets_ring_rules(), "case {case}");
+    }
+}
+
+#[test]
+fn two_at_a_place_share_in_its_direction_and_with_n_hops_in_either() {
+    let with_1_to_3 = |destination: u8, place: usize| {
+        let pair = Channel::Two(circuit(5, 1, 3), circuit(6, 3, destination));
+        broken(|table| table.channels[place] = pair).broken_rule()
+    };
+    for place in 2..6 {
+        let clockwise = place % 2 == 0;
+        assert_eq!(with_1_to_3(5, place), (!clockwise).then_some(Rule::Sharing), "4 hops");
+        assert_eq!(with_1_to_3(1, place), None, "5 hops");
+        assert_eq!(with_1_to_3(2, place), clockwise.then_some(Rule::Sharing), "6 hops");
     }
 }

@@ -2,7 +2,10 @@
 
 mod common;
 
-use common::{circuit, open, ring, tables};
+use common::{
+    circuit, open, ring, ring_of_01, ring_where_first_fits, ring_where_second_fits,
+    ring_with_return, standing, tables,
+};
 use ring::circuit::Circuit;
 use ring::generator::Kind;
 use ring::opening::{Move, Opening};
@@ -21,26 +24,6 @@ fn record(number: u32, from: u8, to: u8) -> Move {
 
 const UNWRITTEN: Move = Move { number: 999, from: Place(99), to: Place(98) };
 
-/// A table with these circuits alone at their places.
-fn alone(ports: &[u8], circuits: &[(u8, Circuit)]) -> Table {
-    let mut table = ring(ports);
-    for &(place, circuit) in circuits {
-        table.channels[usize::from(place)] = Channel::One(circuit);
-    }
-    assert!(table.meets_ring_rules());
-    table
-}
-
-/// The ring of document 01 before circuit 15 is opened.
-fn ring_of_01() -> Table {
-    let mut table = ring(&[1; 5]);
-    let circuits = [circuit(11, 1, 5), circuit(12, 2, 3), circuit(13, 4, 1), circuit(14, 3, 2)];
-    for (place, circuit) in (0..).zip(circuits) {
-        assert_eq!(open(&mut table, circuit), answer(place, 0, 0));
-    }
-    table
-}
-
 #[test]
 fn step_1_comes_before_a_free_place() {
     let mut table = ring(&[2; 5]);
@@ -52,7 +35,7 @@ fn step_1_comes_before_a_free_place() {
 #[test]
 fn step_1_takes_the_lowest_place_that_fits() {
     let circuits = [(0, circuit(1, 2, 5)), (2, circuit(2, 1, 3)), (4, circuit(3, 1, 3))];
-    let mut table = alone(&[2; 5], &circuits);
+    let mut table = standing(&[2; 5], &circuits);
     assert_eq!(open(&mut table, circuit(4, 3, 4)), answer(2, 0, 0));
 }
 
@@ -64,12 +47,33 @@ fn circuits_without_a_common_link_do_not_share_unless_adjacent() {
 }
 
 #[test]
-fn hops_of_exactly_n_share_clockwise_only() {
-    let mut table = alone(&[2; 5], &[(1, circuit(1, 2, 3))]);
-    assert_eq!(open(&mut table, circuit(2, 3, 2)), answer(0, 0, 0));
-    let mut table = alone(&[2; 5], &[(0, circuit(1, 2, 3))]);
-    assert_eq!(open(&mut table, circuit(2, 3, 2)), answer(0, 0, 0));
-    assert!(matches!(table.channels[0], Channel::Two(..)));
+fn step_1_joins_a_circuit_and_its_return_either_way() {
+    for place in [0, 1, 2, 3] {
+        let mut table = standing(&[2; 5], &[(place, circuit(1, 2, 3))]);
+        assert_eq!(open(&mut table, circuit(2, 3, 2)), answer(place, 0, 0));
+        let pair = Channel::Two(circuit(1, 2, 3), circuit(2, 3, 2));
+        assert_eq!(table.channels[usize::from(place)], pair);
+    }
+}
+
+#[test]
+fn step_1_takes_the_lower_of_two_returns_whatever_their_directions() {
+    for (lower, higher) in [(0, 1), (1, 2), (0, 2), (1, 3)] {
+        let circuits = [(lower, circuit(1, 2, 3)), (higher, circuit(2, 2, 3))];
+        let mut table = standing(&[2; 5], &circuits);
+        assert_eq!(open(&mut table, circuit(3, 3, 2)), answer(lower, 0, 0));
+    }
+}
+
+#[test]
+fn one_hop_less_or_more_than_n_is_joined_one_way_only() {
+    let opening = |place: u8, destination: u8| {
+        let mut table = standing(&[2; 5], &[(place, circuit(1, 2, 4))]);
+        open(&mut table, circuit(2, 4, destination))
+    };
+    // 2→4 with 4→1 totals 4, with 4→3 it totals 6; the lowest unlit place is the other of 0 and 1.
+    assert_eq!((opening(0, 1), opening(1, 1)), (answer(0, 0, 0), answer(0, 0, 0)));
+    assert_eq!((opening(0, 3), opening(1, 3)), (answer(1, 0, 0), answer(1, 0, 0)));
 }
 
 #[test]
@@ -94,7 +98,7 @@ fn full_ring() -> Table {
         (4, circuit(105, 4, 3)),
         (5, circuit(106, 2, 1)),
     ];
-    let mut table = alone(&[2, 1, 2, 1, 2, 1], &circuits);
+    let mut table = standing(&[2, 1, 2, 1, 2, 1], &circuits);
     assert_eq!(open(&mut table, circuit(107, 3, 1)), answer(4, 3, 4));
     table
 }
@@ -123,30 +127,59 @@ fn step_3a_keeps_the_lower_place_where_both_fit() {
 
 #[test]
 fn step_3a_keeps_the_first_member_where_only_it_fits() {
-    let circuits = [
-        (0, circuit(1, 1, 3)),
-        (1, circuit(2, 4, 5)),
-        (2, circuit(3, 2, 4)),
-        (3, circuit(4, 5, 1)),
-    ];
-    let mut table = alone(&[1; 5], &circuits);
+    let (mut table, new) = ring_where_first_fits();
     let mut list = [UNWRITTEN; 3];
-    assert_eq!(table.open(circuit(5, 3, 2), &mut list), answer(3, 1, 3));
+    assert_eq!(table.open(new, &mut list), answer(3, 1, 3));
     assert_eq!(list, [record(4, 3, 0), UNWRITTEN, UNWRITTEN]);
 }
 
 #[test]
 fn step_3a_keeps_the_second_member_where_only_it_fits() {
-    let circuits = [
-        (0, circuit(1, 1, 4)),
-        (1, circuit(2, 2, 5)),
-        (2, circuit(3, 5, 3)),
-        (3, circuit(4, 4, 2)),
-    ];
-    let mut table = alone(&[1; 5], &circuits);
+    let (mut table, new) = ring_where_second_fits();
     let mut list = [UNWRITTEN; 3];
-    assert_eq!(table.open(circuit(5, 3, 1), &mut list), answer(0, 1, 3));
+    assert_eq!(table.open(new, &mut list), answer(0, 1, 3));
     assert_eq!(list, [record(1, 0, 3), UNWRITTEN, UNWRITTEN]);
+}
+
+#[test]
+fn step_3a_keeps_the_lower_place_of_a_circuit_and_its_return() {
+    // The last column is the looks: between places 1 and 3 stands a circuit alone at place 2.
+    for (lower, higher, looks) in [(0, 1, 1), (1, 2, 1), (0, 2, 1), (1, 3, 2)] {
+        let (mut table, new) = ring_with_return(lower, higher);
+        let mut list = [UNWRITTEN; 3];
+        assert_eq!(table.open(new, &mut list), answer(higher, 1, looks), "{lower} {higher}");
+        assert_eq!(list, [record(2, higher, lower), UNWRITTEN, UNWRITTEN]);
+        let pair = Channel::Two(circuit(1, 2, 3), circuit(2, 3, 2));
+        assert_eq!(table.channels[usize::from(lower)], pair);
+        assert_eq!(table.channels[usize::from(higher)], Channel::One(new));
+    }
+}
+
+/// Whether the pair of 3b, which stands where x was, totals N.
+fn is_3b_of_return(after: &Table, list: &[Move]) -> bool {
+    match after.channels[list[0].from.index()] {
+        Channel::Two(a, b) => a.hops(after.nodes) + b.hops(after.nodes) == after.nodes,
+        _ => panic!("3b puts a pair together"),
+    }
+}
+
+#[test]
+fn step_3b_never_has_a_circuit_and_its_return() {
+    let mut openings = 0;
+    for table in tables(Kind::Small, 12, 20_000, 3) {
+        for source in 1..=table.nodes {
+            for destination in 1..=table.nodes {
+                let mut after = table.clone();
+                let mut list = [UNWRITTEN; 3];
+                let opening = after.open(circuit(1_000_000, source, destination), &mut list);
+                if opening.is_ok_and(|opening| opening.moves >= 2) {
+                    assert!(!is_3b_of_return(&after, &list), "{table:?} {source} {destination}");
+                    openings += 1;
+                }
+            }
+        }
+    }
+    assert!(openings > 50, "{openings} openings by 3b");
 }
 
 #[test]

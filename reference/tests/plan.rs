@@ -41,6 +41,21 @@ fn is_refused_line(line: &str) {
     assert_eq!(on_small(&format!("{line}\n")), "line refused\n", "{line}");
 }
 
+macro_rules! example {
+    ($name:ident, $file:literal) => {
+        #[test]
+        fn $name() {
+            let script = include_bytes!(concat!("../../examples/", $file, ".plan"));
+            let expected = include_str!(concat!("../../examples/", $file, ".expected"));
+            assert_eq!(answer(script), expected);
+        }
+    };
+}
+
+example!(example_forms, "forms");
+example!(example_planning, "planning");
+example!(example_saved, "saved");
+
 #[test]
 fn the_script_programs_lines_are_answered_as_there() {
     for kind in [Kind::Small, Kind::Mixed, Kind::Large] {

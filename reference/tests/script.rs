@@ -36,7 +36,12 @@ macro_rules! example {
 }
 
 example!(example_01, "01");
+example!(example_exercises, "exercises");
 example!(example_filling, "filling");
+example!(example_one_move, "one-move");
+example!(example_two_moves, "two-moves");
+example!(example_three_moves, "three-moves");
+example!(example_returns, "returns");
 example!(example_refusals, "refusals");
 example!(example_dimensions, "dimensions");
 
@@ -44,11 +49,12 @@ example!(example_dimensions, "dimensions");
 fn the_script_of_document_01() {
     let script = "ring 5 1 1 1 1 1\nopen 11 1 5 0\nopen 12 2 3 0\nopen 13 4 1 0\nopen 14 3 2 0\n\
         open 15 5 4 0\nopen 16 1 2 0\nclose 13\nopen 16 4 1 0\n";
+    // 14 joins 12, its return, counterclockwise. So 15 finds place 3 unlit: with 11 and with 13 its
+    // hops total 8 and 6, and both stand clockwise. 16 then joins 15 there, with 6 hops in total.
     let output = "ring 5 wavelengths 2\nopen 11 place 0 moves 0 looks 0\n\
         open 12 place 1 moves 0 looks 0\nopen 13 place 2 moves 0 looks 0\n\
-        open 14 place 3 moves 0 looks 0\nopen 15 place 2 moves 3 looks 2\n\
-        move 12 from 1 to 0\nmove 11 from 0 to 1\nmove 13 from 2 to 1\n\
-        open 16 refused 13\nclose 13\nopen 16 place 1 moves 0 looks 0\n";
+        open 14 place 1 moves 0 looks 0\nopen 15 place 3 moves 0 looks 0\n\
+        open 16 refused 13\nclose 13\nopen 16 place 3 moves 0 looks 0\n";
     assert_eq!(answer(script.as_bytes()), output);
 }
 

@@ -1,2 +1,2 @@
--- Document 01's cases hold.
+-- The cases of documents 01 and 02 hold.
 pub mod Cases

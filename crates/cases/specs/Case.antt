@@ -1,5 +1,5 @@
 -- Cases by kind: what is asked, and what the definitions answer. Assumes nothing.
--- What is asked and answered in 01's cases, for a reader to check beside 01.
+-- What is asked and answered in 01's and 02's cases, for a reader to check beside them.
 use Prim.Native.Nat.{ℕ, _+_}
 use mathlib.Core.Path.{_≡_}
 use mathlib.Core.List.{List, [], _∷_, _++_}
@@ -10,10 +10,12 @@ use Rattle.lightpath.specs.declared.Direction.{Direction}
 use Rattle.lightpath.specs.declared.Direction.the-variants.{Clockwise as clockwise, Counterclockwise as counterclockwise}
 use Rattle.lightpath.specs.declared.Circuit.{Circuit}
 use Rattle.lightpath.specs.Circuit.{hops, adjacent, canShare}
+use Rattle.lightpath.specs.BeforeE1.{canShareBeforeE1}
 use Rattle.moves.specs.declared.Move.{Move}
 use Rattle.moves.specs.Lent.{blanks}
 use Rattle.ports.specs.Ports.{wavelengths}
 use Rattle.refusals.specs.Answer.{Answer as Reply, refusal, verdictAnswer}
+use Rattle.rules.specs.Rules.{Sharing}
 use Rattle.ring.specs.declared.RingTable.{RingTable}
 use Rattle.ring.specs.Making.{makeOf}
 use Rattle.ring.specs.Opening.{openOf, lentAfter}
@@ -25,6 +27,8 @@ use Rattle.form.specs.Form.{formOf}
 pub data Question : Type 0 where
   -- two circuits on a ring of N nodes
   pair : ℕ → Circuit → Circuit → Question
+  -- the same before E1
+  pairBeforeE1 : ℕ → Circuit → Circuit → Question
   -- port counts
   ports : List ℕ → Question
   -- a ring of N nodes made with some port counts
@@ -74,11 +78,15 @@ infix 70 _gives_
 abbrev pub _gives_ : Question → Answer → Case
 q gives a = record { asked = q; expected = a }
 
--- the directions in which two circuits can share
-abbrev pub directions : ℕ → Circuit → Circuit → List Direction
-directions N a b =
-    pick (canShare N clockwise a b) (clockwise ∷ []) []
-    ++ pick (canShare N counterclockwise a b) (counterclockwise ∷ []) []
+-- the directions in which two circuits can share, by a rule for it
+abbrev pub directions : Sharing → ℕ → Circuit → Circuit → List Direction
+directions can N a b =
+    pick (can N clockwise a b) (clockwise ∷ []) []
+    ++ pick (can N counterclockwise a b) (counterclockwise ∷ []) []
+
+-- the total of their hops, and these
+abbrev pub sharing : Sharing → ℕ → Circuit → Circuit → Answer
+sharing can N a b = pick (adjacent a b) (shares (hops N a + hops N b) (directions can N a b)) notAdjacent
 
 -- the map of a form stands after N and the ports
 abbrev pub mapStart : RingTable → ℕ
@@ -86,7 +94,8 @@ mapStart t = 1 + t .nodes
 
 -- what the definitions answer
 abbrev pub answerTo : Question → Answer
-answerTo (pair N a b) = pick (adjacent a b) (shares (hops N a + hops N b) (directions N a b)) notAdjacent
+answerTo (pair N a b) = sharing canShare N a b
+answerTo (pairBeforeE1 N a b) = sharing canShareBeforeE1 N a b
 answerTo (ports ks) = dimensions (total ks) (wavelengths ks)
 answerTo (making N ks) = replied (verdictAnswer (makeOf N ks .verdict)) [] (makeOf N ks .table)
 answerTo (opening t c) = replied (openingAnswer (openOf t c blanks .answer)) (lentAfter t c blanks) (openOf t c blanks .table)

@@ -1,4 +1,4 @@
--- The laws of the saved form: its parts, written and read back, read and written back, its length; then the laws of the whole.
+-- The laws of the saved form: its parts, written and read back, read and written back, its length; then the laws of the whole, and forms from before E1.
 pub mod Numbers
 pub mod MapBytes
 pub mod Ports
@@ -9,3 +9,4 @@ pub mod Unique
 pub mod Tables
 pub mod Length
 pub mod Laws
+pub mod BeforeE1

@@ -95,21 +95,29 @@ readRecords lit (suc k) p = do
   chs ← readRecords lit k (suc p)
   give (record { slot = slot } ∷ chs)
 
--- the table that was read; 33 where it breaks a ring rule
-unfoldable pub checked : List ℕ → Channels → Reader RingTable
-checked ks chs = do
+-- the table that was read; 33 where it fails the test `meets`
+abbrev pub checkedBy : (RingTable → Bool) → List ℕ → Channels → Reader RingTable
+checkedBy meets ks chs = do
   let t = withChannels (freshTable (length ks) ks) chs
-  no-33 unless meetsRules t
+  no-33 unless meets t
   give t
 
--- the whole form
-unfoldable pub readTable : Reader RingTable
-readTable = do
+-- 33 where it breaks a ring rule
+unfoldable pub checked : List ℕ → Channels → Reader RingTable
+checked ks chs = checkedBy meetsRules ks chs
+
+-- the whole form, with a check of the table at its end
+abbrev pub readBy : (List ℕ → Channels → Reader RingTable) → Reader RingTable
+readBy check = do
   ks ← readPorts
   m ← readMap (limitOf ks)
   chs ← readRecords (mapBit m) placeCount 0
   end
-  checked ks chs
+  check ks chs
+
+-- the whole form
+unfoldable pub readTable : Reader RingTable
+readTable = readBy checked
 
 -- a refused reading hands back the blank table
 abbrev pub answeredBy : Field RingTable → Answered

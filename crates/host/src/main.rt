@@ -155,8 +155,8 @@ fn circuit(number: u32, source: u8, destination: u8) -> Circuit
     }
 }
 
-// Document 01's script: five nodes with a transmitter and a receiver at each. The opening of 15 moves three circuits.
-fn move_three() -> RingTable {
+// Document 01's script: five nodes with a transmitter and a receiver at each. 14 is the return of 12 and joins it.
+fn join_return() {
     let table = make_ring(5, b"\x01\x01\x01\x01\x01");
     let table = open_circuit(table, circuit(11, 1, 5));
     let table = open_circuit(table, circuit(12, 2, 3));
@@ -165,27 +165,37 @@ fn move_three() -> RingTable {
     let table = open_circuit(table, circuit(15, 5, 4));
     let table = open_circuit(table, circuit(16, 1, 2));
     let table = close_circuit(table, 13);
-    open_circuit(table, circuit(16, 4, 1))
+    open_circuit(table, circuit(16, 4, 1));
 }
 
-// After it, an opening that moves one.
-fn move_one(table: RingTable) {
-    let table = close_circuit(table, 16);
-    let table = close_circuit(table, 11);
-    let table = close_circuit(table, 12);
-    let table = open_circuit(table, circuit(17, 1, 5));
-    let table = open_circuit(table, circuit(18, 4, 1));
-    open_circuit(table, circuit(19, 2, 3));
+// On the same ring, an opening that moves one.
+fn move_one() {
+    let table = make_ring(5, b"\x01\x01\x01\x01\x01");
+    let table = open_circuit(table, circuit(21, 4, 3));
+    let table = open_circuit(table, circuit(22, 1, 2));
+    let table = open_circuit(table, circuit(23, 2, 5));
+    let table = open_circuit(table, circuit(24, 3, 1));
+    open_circuit(table, circuit(25, 5, 4));
 }
 
 // On a ring of six nodes, an opening that moves two.
 fn move_two() -> RingTable {
     let table = make_ring(6, b"\x01\x01\x01\x01\x01\x01");
-    let table = open_circuit(table, circuit(21, 4, 3));
-    let table = open_circuit(table, circuit(22, 6, 5));
-    let table = open_circuit(table, circuit(23, 5, 6));
-    let table = open_circuit(table, circuit(24, 1, 2));
-    open_circuit(table, circuit(25, 2, 4))
+    let table = open_circuit(table, circuit(21, 6, 5));
+    let table = open_circuit(table, circuit(22, 2, 3));
+    let table = open_circuit(table, circuit(23, 4, 2));
+    let table = open_circuit(table, circuit(24, 1, 4));
+    open_circuit(table, circuit(25, 5, 1))
+}
+
+// On one of five, an opening that moves three.
+fn move_three() {
+    let table = make_ring(5, b"\x01\x01\x01\x01\x01");
+    let table = open_circuit(table, circuit(21, 5, 4));
+    let table = open_circuit(table, circuit(22, 1, 2));
+    let table = open_circuit(table, circuit(23, 4, 1));
+    let table = open_circuit(table, circuit(24, 2, 3));
+    open_circuit(table, circuit(25, 3, 5));
 }
 
 // The ring is saved in so many of 100 lent bytes.
@@ -217,8 +227,10 @@ fn report_loads(table: RingTable, room: usize) {
 
 // What is lent suffices, or is too short; and a table that breaks a ring rule.
 fn main() {
-    move_one(move_three());
+    join_return();
+    move_one();
     let table = move_two();
+    move_three();
     save_ring(table, 100);
     save_ring(table, 10);
     save_ring(RingTable::blank(), 100);

@@ -63,7 +63,7 @@ module _ (N : ℕ) (a b : Circuit) (d : Direction) where
   share-clockwise r m n e f g h k = simp (e, ← f, g, ← h, ← k)
 
   pub share-counterclockwise : (r : Bool) (m n : ℕ) → d ≡ counterclockwise → r ≡ adjacent a b → r ≡ true → m ≡ hops N a → n ≡ hops N b
-      → ltb N (m + n) ≡ canShare N d a b
+      → leb N (m + n) ≡ canShare N d a b
   share-counterclockwise r m n e f g h k = simp (e, ← f, g, ← h, ← k)
 
   pub ruleset sharing = (not-adjacent, share-clockwise, share-counterclockwise, not-true, not-false)

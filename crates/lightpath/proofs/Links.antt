@@ -67,6 +67,47 @@ hops-range N c h = (
     low (inl a) = omega (arith, o)
     low (inr a) = omega (arith, o)
 
+-- a circuit and its return go once round the ring
+pub return-total : (N : ℕ) (a b : Circuit) → joins N a ≡ true → a .destination ≡ b .source → b .destination ≡ a .source → hops N a + hops N b ≡ N
+return-total N a b h e f =
+    rw (← e, f)
+    (round (ahead-cases N (a .source) (a .destination) (o .sourceLow) (o .sourceHigh) (o .destLow) (o .destHigh))
+    (ahead-cases N (a .destination) (a .source) (o .destLow) (o .destHigh) (o .sourceLow) (o .sourceHigh)))
+  where
+    o : OnRing N a
+    o = on-ring N a h
+
+    round : Ahead N (a .source) (a .destination) → Ahead N (a .destination) (a .source)
+        → ahead N (a .source) (a .destination) + ahead N (a .destination) (a .source) ≡ N
+    round (inl x) (inl y) = absurd (o .apart (omega arith))
+    round (inl x) (inr y) = omega (arith, o)
+    round (inr x) (inl y) = omega (arith, o)
+    round (inr x) (inr y) = absurd (omega arith)
+
+-- two end to end that go once round the ring are a circuit and its return
+ends-back : (N : ℕ) (a b : Circuit) → OnRing N a → OnRing N b → a .destination ≡ b .source → hops N a + hops N b ≡ N → b .destination ≡ a .source
+ends-back N a b oa ob e h =
+    go (ahead-cases N (a .source) (a .destination) (oa .sourceLow) (oa .sourceHigh) (oa .destLow) (oa .destHigh))
+    (ahead-cases N (b .source) (b .destination) (ob .sourceLow) (ob .sourceHigh) (ob .destLow) (ob .destHigh))
+  where
+    go : Ahead N (a .source) (a .destination) → Ahead N (b .source) (b .destination) → b .destination ≡ a .source
+    go (inl x) (inl y) = absurd (omega (arith, oa, ob))
+    go (inl x) (inr y) = omega (arith, oa, ob)
+    go (inr x) (inl y) = omega (arith, oa, ob)
+    go (inr x) (inr y) = absurd (omega (arith, oa, ob))
+
+-- so every adjacent pair whose hops total N is one
+pub total-return : (N : ℕ) (a b : Circuit) → joins N a ≡ true → joins N b ≡ true → adjacent a b ≡ true → hops N a + hops N b ≡ N
+    → (a .destination ≡ b .source) × (b .destination ≡ a .source)
+total-return N a b ja jb adj h = go (or-true (eqb (a .destination) (b .source)) (eqb (b .destination) (a .source)) adj)
+  where
+    go : (eqb (a .destination) (b .source) ≡ true) ⊎ (eqb (b .destination) (a .source) ≡ true)
+        → (a .destination ≡ b .source) × (b .destination ≡ a .source)
+    go (inl e) = let x = eqb-true (a .destination) (b .source) e in (x, ends-back N a b (on-ring N a ja) (on-ring N b jb) x h)
+    go (inr e) =
+        let x = eqb-true (b .destination) (a .source) e in
+        (ends-back N b a (on-ring N b jb) (on-ring N a ja) x (rw (add-comm (hops N b) (hops N a)) h), x)
+
 -- from s over m to l it is as far as from s to l, or once more round the ring
 abbrev Chain : ℕ → ℕ → ℕ → ℕ → Type 0
 Chain N s m l = (ahead N s m + ahead N m l ≡ ahead N s l) ⊎ (ahead N s m + ahead N m l ≡ ahead N s l + N)

@@ -1,17 +1,18 @@
 -- Sharing: the rest of the product uses these laws of it and not its definition. Assumes nothing.
 use Prim.Native.Nat.{ℕ, _+_, _≤_}
-use mathlib.Core.Path.{_≡_, refl}
+use mathlib.Core.Path.{_≡_, refl, sym}
+use mathlib.Core.Logic.{_≢_}
 use mathlib.Core.Bool.{Bool, true, false, or-comm}
 use native.Mathlib.Nat.{add-comm}
 use native.Mathlib.Omega.{arith}
 use lib.Dec.{eqb}
-use borrow.Author.Tests.{leb-true, leb-false, ltb-true, lt-ltb}
+use borrow.Author.Tests.{leb-true, leb-false, ltb-true, le-leb, eq-eqb}
 use Rattle.basis.specs.Choice.{pick, bit}
-use Rattle.basis.proofs.Bools.{and-left, and-right}
+use Rattle.basis.proofs.Bools.{and-left, and-right, fails}
 use Rattle.basis.proofs.Weigh.{bit-most}
 use Rattle.lightpath.specs.Place.{Direction, clockwise, counterclockwise}
 use Rattle.lightpath.specs.Circuit.{Circuit, joins, hops, uses, adjacent, canShare, shareDirection}
-use Rattle.lightpath.proofs.Links.{on-ring, Suits, lemma1}
+use Rattle.lightpath.proofs.Links.{on-ring, return-total, Suits, lemma1}
 
 -- a pair that shares is adjacent
 pub can-adjacent : (N : ℕ) (d : Direction) (a b : Circuit) → canShare N d a b ≡ true → adjacent a b ≡ true
@@ -32,14 +33,6 @@ pub can-swap : (N : ℕ) (d : Direction) (a b : Circuit) → canShare N d a b �
 can-swap N clockwise a b h = rw (adjacent-swap b a, add-comm (hops N b) (hops N a)) h
 can-swap N counterclockwise a b h = rw (adjacent-swap b a, add-comm (hops N b) (hops N a)) h
 
--- an adjacent pair can share in at least one direction
-pub can-one : (N : ℕ) (a b : Circuit) → adjacent a b ≡ true → canShare N (shareDirection N a b) a b ≡ true
-can-one N a b h = go (canShare N clockwise a b) refl
-  where
-    go : (o : Bool) → canShare N clockwise a b ≡ o → canShare N (pick o clockwise counterclockwise) a b ≡ true
-    go true e = e
-    go false e = rw (h, lt-ltb N (hops N a + hops N b) (leb-false _ _ (rw h at e)))
-
 -- the total of the hops of a pair that shares suits the direction
 suits : (N : ℕ) (d : Direction) (a b : Circuit) → canShare N d a b ≡ true → Suits N d (hops N a + hops N b)
 suits N clockwise a b h = let fits = and-right (adjacent a b) _ h in omega (arith, leb-true, ltb-true)
@@ -55,3 +48,29 @@ share-links N d a b l can ja jb low high = go (uses N d a l) refl (uses N d b l)
         absurd (lemma1 N a b l (on-ring N a ja) (on-ring N b jb) (can-adjacent N d a b can) low high d (suits N d a b can) ex ey)
     go true ex false ey = omega arith
     go false ex y ey = omega (arith, bit-most y)
+
+-- a pair whose hops total N can share in both directions
+pub can-both : (N : ℕ) (d : Direction) (a b : Circuit) → adjacent a b ≡ true → hops N a + hops N b ≡ N → canShare N d a b ≡ true
+can-both N clockwise a b h e = rw (h, le-leb (hops N a + hops N b) N (omega arith))
+can-both N counterclockwise a b h e = rw (h, le-leb N (hops N a + hops N b) (omega arith))
+
+-- so a circuit and its return fit together either way round, on every ring
+pub return-shares : (N : ℕ) (d : Direction) (a b : Circuit) → joins N a ≡ true → a .destination ≡ b .source → b .destination ≡ a .source
+    → canShare N d a b ≡ true
+return-shares N d a b j e f = can-both N d a b (rw (eq-eqb _ _ e)) (return-total N a b j e f)
+
+-- an adjacent pair can share in at least one direction
+pub can-one : (N : ℕ) (a b : Circuit) → adjacent a b ≡ true → canShare N (shareDirection N a b) a b ≡ true
+can-one N a b h = go (canShare N clockwise a b) refl
+  where
+    go : (o : Bool) → canShare N clockwise a b ≡ o → canShare N (pick o clockwise counterclockwise) a b ≡ true
+    go true e = e
+    go false e = let above = rw h at e in rw (h, le-leb N (hops N a + hops N b) (omega (arith, leb-false)))
+
+-- and in one only unless their hops total N
+pub can-only : (N : ℕ) (d : Direction) (a b : Circuit) → hops N a + hops N b ≢ N → canShare N d a b ≡ true → d ≡ shareDirection N a b
+can-only N clockwise a b n h = rw h
+can-only N counterclockwise a b n h = rw (sym (fails (canShare N clockwise a b) (λ k. n (both k))))
+  where
+    both : canShare N clockwise a b ≡ true → hops N a + hops N b ≡ N
+    both k = let most = and-right (adjacent a b) _ k in let least = and-right (adjacent a b) _ h in omega (arith, leb-true)

@@ -43,12 +43,12 @@ users N d l cs = weigh (λ c. bit (uses N d c l)) cs
 abbrev pub adjacent : Circuit → Circuit → Bool
 adjacent a b = eqb (a .destination) (b .source) || eqb (b .destination) (a .source)
 
--- an adjacent pair can share clockwise when their hops total at most N, otherwise counterclockwise (Lemma 1; a total of exactly N counts
--- as clockwise only)
+-- an adjacent pair can share clockwise when their hops total at most N, counterclockwise when they total at least N (Lemma 1). An adjacent
+-- pair whose hops total N, which is a circuit and its return, can share in both directions (02, E1)
 abbrev pub canShare : ℕ → Direction → Circuit → Circuit → Bool
 canShare N clockwise a b = adjacent a b && leb (hops N a + hops N b) N
-canShare N counterclockwise a b = adjacent a b && ltb N (hops N a + hops N b)
+canShare N counterclockwise a b = adjacent a b && leb N (hops N a + hops N b)
 
--- the direction in which an adjacent pair can share
+-- the direction in which an adjacent pair can share, clockwise if it can in both
 abbrev pub shareDirection : ℕ → Circuit → Circuit → Direction
 shareDirection N a b = pick (canShare N clockwise a b) clockwise counterclockwise

@@ -153,11 +153,11 @@ impl Circuit {
         let total = self.hops(nodes) + other.hops(nodes);
         match direction {
             Direction::Clockwise => total <= nodes as u16,
-            Direction::Counterclockwise => (nodes as u16) < total,
+            Direction::Counterclockwise => nodes as u16 <= total,
         }
     }
 
-    // The direction in which the two can share where they are adjacent.
+    // The direction in which the two can share where they are adjacent, clockwise if they can in both.
     pub fn share_direction(self, other: Circuit, nodes: u8) -> Direction
         requires { ⌜ 0 < nodes ⌝ }
         ensures { λ r. ⌜ r ≡ shareDirection nodes self other ⌝ }

@@ -25,7 +25,7 @@ pub struct Pair {
     pub looks: u16,
 }
 
-// The pair that step 3 finds, and x: of the nonsharing circuits in the direction in which the pair can share, the one at the lowest place.
+// The pair that step 3 finds, and x: of the nonsharing circuits in the direction that 3b would take, the one at the lowest place.
 pub struct Found {
     pub pair: Pair,
     pub x: Standing,

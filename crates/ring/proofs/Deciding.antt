@@ -1,6 +1,6 @@
--- What an opening of a table that meets the ring rules gives, by its verdict; the table after it meets them again, and the looks are at most
--- 8,256. Assumes nothing.
-use Prim.Native.Nat.{ℕ, _≤_, _<_}
+-- What an opening of a table that meets the ring rules gives, by its verdict; a circuit and its return that step 3 finds share at the lower
+-- place; the table after it meets the rules again, and the looks are at most 8,256. Assumes nothing.
+use Prim.Native.Nat.{ℕ, _+_, _≤_, _<_}
 use mathlib.Core.Path.{_≡_, refl, sym, ap, _∙_}
 use mathlib.Core.Bool.{Bool, true, not}
 use mathlib.Core.List.{List, [], _∷_}
@@ -9,20 +9,23 @@ use lib.Dec.{ltb}
 use lib.ListN.{getD}
 use borrow.Author.Tests.{not-true}
 use Rattle.limits.specs.Limits.{placeCount, leastRecords}
+use Rattle.lightpath.specs.Circuit.{hops}
 use Rattle.lightpath.specs.declared.Circuit.{Circuit}
 use Rattle.lit_words.specs.Lit.{noneLitFrom}
 use Rattle.channels.specs.Channels.{Channels, litAt}
 use Rattle.channels.specs.Change.{puts}
 use Rattle.channels.specs.Changes.{inOrder}
+use Rattle.channels.specs.declared.Standing.{Standing}
 use Rattle.ports.specs.Ports.{limitOf, portsAt}
 use Rattle.rules.proofs.Allowable.{Allowable}
-use Rattle.steps.specs.Plan.{Plan}
-use Rattle.steps.specs.Steps.{planOf}
+use Rattle.steps.specs.Plan.{Plan, oneMove}
+use Rattle.steps.specs.Steps.{joinPlace, unlitPlace, foundPair, looks, planOf}
 use Rattle.steps.specs.Ready.{Ready}
 use Rattle.steps.specs.Kept.{PlanKeeps}
 use Rattle.steps.proofs.Step3.{ready}
 use Rattle.steps.proofs.Steps.{plan-serves}
 use Rattle.steps.proofs.Looks.{plan-looks}
+use Rattle.steps.proofs.BothWays.{return-stays}
 use Rattle.survey.specs.Survey.{surveyOf}
 use Rattle.survey.specs.declared.Survey.{Survey}
 use Rattle.plan.specs.Planned.{Plans}
@@ -84,9 +87,24 @@ module _ (t : RingTable) (c : Circuit) (n : ℕ) (rules : meetsRules t ≡ true)
   permits : judged (openCauses t c n) ≡ granted → Allowable (t .nodes) (t .ports) (t .channels) c
   permits e = allowable t c (granted-rest (ShortList if ltb n leastRecords) (requestCauses t c) e)
 
+  -- the pair that step 3 finds
+  abbrev pair : Standing × Standing
+  pair = foundPair (limitOf (t .ports)) (t .channels) c
+
   -- so the table is ready for its steps
   open-ready : judged (openCauses t c n) ≡ granted → Ready (t .nodes) (limitOf (t .ports)) (t .channels) c
   open-ready e = ready (t .nodes) (t .ports) (t .channels) c (table-rules t rules) (permits e)
+
+  -- where step 3 finds a pair whose hops total N, its two circuits are put together, and the lower place stays
+  pub open-return : judged (openCauses t c n) ≡ granted
+      → limitOf (t .ports) ≤ joinPlace (t .nodes) (limitOf (t .ports)) (t .channels) c
+      → limitOf (t .ports) ≤ unlitPlace (t .nodes) (limitOf (t .ports)) (t .channels) c
+      → hops (t .nodes) (pair .0 .circuit) + hops (t .nodes) (pair .1 .circuit) ≡ t .nodes
+      → (pair .0 .place < pair .1 .place) × (planned t c ≡ oneMove c (pair .0) (pair .1) (looks (limitOf (t .ports)) (t .channels) c))
+  open-return e none lit total =
+      let l = table-limits t rules in
+      let r = return-stays (t .nodes) (limitOf (t .ports)) (t .channels) c (omega (arith, l .long, l .below)) (open-ready e) none lit total in
+      (r .0, r .2)
 
   -- and they serve it
   pub serves : judged (openCauses t c n) ≡ granted

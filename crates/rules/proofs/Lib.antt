@@ -1,6 +1,7 @@
--- The laws of the ring rules: the test as facts, which places stay unlit, what fits at a place, what an opening needs, and the paper's
--- counting; and the loops that test numbers and ports in use.
+-- The laws of the ring rules: the test as facts, tables from before E1, which places stay unlit, what fits at a place, what an opening needs, and
+-- the paper's counting; and the loops that test numbers and ports in use.
 pub mod Rules
+pub mod BeforeE1
 pub mod Unlit
 pub mod Fits
 pub mod Allowable

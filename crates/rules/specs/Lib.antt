@@ -1,4 +1,5 @@
--- The definitions of the ring rules; and the places tested one by one, and circuits counted by node.
+-- The definitions of the ring rules, now and before E1; and the places tested one by one, and circuits counted by node.
 pub mod Rules
+pub mod BeforeE1
 pub mod EachPlace
 pub mod Tallies

@@ -11,6 +11,7 @@ use Rattle.limits.specs.Limits.{placeCount, portFields}
 use Rattle.lightpath.specs.Place.{directionOf}
 use Rattle.lightpath.specs.Circuit.{joins, users, canShare}
 use Rattle.lightpath.specs.declared.Circuit.{Circuit}
+use Rattle.lightpath.specs.declared.Direction.{Direction}
 use Rattle.slots.specs.Slot.{held}
 use Rattle.slots.specs.declared.Slot.{Slot}
 use Rattle.slots.specs.declared.Slot.the-variants.{Unlit as unlit, Alone as alone, Shared as shared}
@@ -38,21 +39,33 @@ abbrev pub portsHold : ℕ → List ℕ → List Circuit → Bool
 portsHold i [] cs = true
 portsHold i (k ∷ ks) cs = leb (sends i cs) k && leb (receives i cs) k && portsHold (suc i) ks cs
 
--- lower number first; two only when they are adjacent and can share in the direction of place p
-abbrev pub shares : ℕ → ℕ → Slot → Bool
-shares N p unlit = true
-shares N p (alone a) = true
-shares N p (shared a b) = ltb (a .number) (b .number) && canShare N (directionOf p) a b
+-- a sharing rule: on a ring of N nodes, in a direction, which two circuits can share
+abbrev pub Sharing : Type 0
+Sharing = ℕ → Direction → Circuit → Circuit → Bool
 
--- the ring rules, all of them, in 01's order
-abbrev pub ringRules : ℕ → List ℕ → Channels → Bool
-ringRules N ks t =
+-- lower number first; two only when they are adjacent and can share, by the rule `can`, in the direction of place p
+abbrev pub sharesBy : Sharing → ℕ → ℕ → Slot → Bool
+sharesBy can N p unlit = true
+sharesBy can N p (alone a) = true
+sharesBy can N p (shared a b) = ltb (a .number) (b .number) && can N (directionOf p) a b
+
+-- the ring rules, all of them, in 01's order, with a sharing rule
+abbrev pub rulesBy : Sharing → ℕ → List ℕ → Channels → Bool
+rulesBy can N ks t =
     limits N ks && sized ks t && unlitFrom (limitOf ks) t
     && everyBelow placeCount (λ p. ends N (at t p))
     && distinct (λ c. c .number) (circuits t)
     && portsHold 1 ks (circuits t)
-    && everyBelow placeCount (λ p. shares N p (at t p))
+    && everyBelow placeCount (λ p. sharesBy can N p (at t p))
     && spareZero N ks
+
+-- what may stand at place p, by `canShare`
+abbrev pub shares : ℕ → ℕ → Slot → Bool
+shares N p s = sharesBy canShare N p s
+
+-- the ring rules
+abbrev pub ringRules : ℕ → List ℕ → Channels → Bool
+ringRules N ks t = rulesBy canShare N ks t
 
 -- what place p holds is on the ring of N nodes and may stand there
 abbrev pub fits : ℕ → ℕ → Slot → Bool

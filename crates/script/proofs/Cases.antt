@@ -1,4 +1,5 @@
--- Scripts and what they print by the definitions: document 01's own, and those at the borders of its words. Assumes nothing.
+-- Scripts and what they print by the definitions: document 01's own, one that moves three circuits, and those at the borders of 01's words.
+-- Assumes nothing.
 use Prim.Native.Nat.{ℕ}
 use Prim.Native.String.{String}
 use mathlib.Core.Path.{_≡_, refl}
@@ -44,19 +45,41 @@ output =
     ∷ "open 11 place 0 moves 0 looks 0"
     ∷ "open 12 place 1 moves 0 looks 0"
     ∷ "open 13 place 2 moves 0 looks 0"
-    ∷ "open 14 place 3 moves 0 looks 0"
-    ∷ "open 15 place 2 moves 3 looks 2"
-    ∷ "move 12 from 1 to 0"
-    ∷ "move 11 from 0 to 1"
-    ∷ "move 13 from 2 to 1"
+    ∷ "open 14 place 1 moves 0 looks 0"
+    ∷ "open 15 place 3 moves 0 looks 0"
     ∷ "open 16 refused 13"
     ∷ "close 13"
-    ∷ "open 16 place 1 moves 0 looks 0"
+    ∷ "open 16 place 3 moves 0 looks 0"
+    ∷ []
+
+-- examples/three-moves.script, and its output
+abbrev moving : List String
+moving =
+    "ring 5 1 1 1 1 1"
+    ∷ "open 21 5 4 0"
+    ∷ "open 22 1 2 0"
+    ∷ "open 23 4 1 0"
+    ∷ "open 24 2 3 0"
+    ∷ "open 25 3 5 0"
+    ∷ []
+
+abbrev moved : List String
+moved =
+    "ring 5 wavelengths 2"
+    ∷ "open 21 place 0 moves 0 looks 0"
+    ∷ "open 22 place 1 moves 0 looks 0"
+    ∷ "open 23 place 2 moves 0 looks 0"
+    ∷ "open 24 place 3 moves 0 looks 0"
+    ∷ "open 25 place 2 moves 3 looks 2"
+    ∷ "move 22 from 1 to 0"
+    ∷ "move 21 from 0 to 1"
+    ∷ "move 23 from 2 to 1"
     ∷ []
 
 abbrev cases : List (List ℕ × List ℕ)
 cases =
     (lines script, lines output)
+    ∷ (lines moving, lines moved)
     -- no line, and lines with nothing in them
     ∷ (bytes "", bytes "")
     ∷ (bytes "\n\n", bytes "line refused\nline refused\n")

@@ -1,5 +1,5 @@
 -- The laws of the steps: following the records, what sound changes keep, the five cases, the searches, the candidates, step 3's two
--- claims, the plan, its looks; and closing.
+-- claims, the plan, a pair that can share both ways, looks; and closing.
 pub mod Following
 pub mod Sound
 pub mod Five
@@ -7,5 +7,6 @@ pub mod Searches
 pub mod Candidates
 pub mod Step3
 pub mod Steps
+pub mod BothWays
 pub mod Looks
 pub mod Closing

@@ -62,7 +62,8 @@ foundPair m t c = getD (pairsOf (candidates m t c)) (passed m t c) (newcomer c, 
 abbrev pub looks : ℕ → Channels → Circuit → ℕ
 looks m t c = suc (passed m t c)
 
--- 3a. A member already stands in direction d (then both are old): x does, in a direction in which the pair a and b can share.
+-- 3a. A member already stands in direction d (then both are old): x does, in a direction in which the pair a and b can share. Of a pair
+-- whose hops total N both do where both are old (02, E1).
 abbrev pub standsRight : ℕ → Standing → Standing → Standing → Bool
 standsRight N a b x = ltb (x .place) nowhere && canShare N (directionOf (x .place)) (a .circuit) (b .circuit)
 
@@ -74,7 +75,7 @@ lowestIn f m t d = firstBelow m (λ p. f (at t p) && sameDirection (directionOf 
 abbrev pub lowestAlone : ℕ → Channels → Direction → ℕ
 lowestAlone m t d = lowestIn isAlone m t d
 
--- and that circuit, d being the direction in which a and b can share
+-- and that circuit, d being the direction in which a and b can share: where neither stands right there is only one
 abbrev pub xOf : ℕ → ℕ → Channels → Standing → Standing → Standing
 xOf N m t a b = standingAt t (lowestAlone m t (shareDirection N (a .circuit) (b .circuit)))
 

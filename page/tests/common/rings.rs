@@ -65,7 +65,7 @@ pub fn still(table: &Table) -> Step {
 
 pub const FILLING_PORTS: [u8; 6] = [2, 1, 2, 1, 2, 1];
 
-/// The ring of the example `filling` before circuit 107 is opened.
+/// A ring with every place lit, before circuit 107 is opened.
 pub const FILLED: [Row; 6] = [
     (101, 3, 5, 0),
     (102, 6, 5, 1),

@@ -3,22 +3,28 @@
 use std::fmt;
 
 use crate::form::Fault;
+use crate::place::Direction::{self, Clockwise, Counterclockwise};
 use crate::refusal::Refusal;
 use crate::table::Rule;
 
 #[derive(Clone, Copy, PartialEq, Eq, PartialOrd, Ord, Debug)]
 pub enum Event {
     Step1,
+    /// Step 1 with a circuit and its return, which share in this direction.
+    Step1Return(Direction),
     Step2,
     Step3aBothFit,
     Step3aFirstFits,
     Step3aSecondFits,
+    /// 3a with a circuit and its return: in which direction each of the two stood.
+    Step3aReturn {
+        stayed: Direction,
+        moved: Direction,
+    },
     Step3bWithNew,
     Step3bOld,
     /// 3b where the lowest place of the direction is shared, so that c lies higher.
     Step3bOverShared,
-    /// The new circuit shares, and the hops of the two total exactly N.
-    SharesWithTotalN,
     Closed,
     ClosedOneOfTwo,
     RingAccepted,
@@ -42,6 +48,8 @@ pub enum Event {
     ReadReplaced,
     ReadWithRemark,
     ReadWithPair,
+    /// A form with a circuit and its return, which share in this direction.
+    ReadWithReturn(Direction),
     ReadFault(Fault),
     ReadFailed,
     Written,
@@ -68,16 +76,21 @@ pub enum Event {
 use Event::*;
 
 /// Every event that a script of the script program can show.
-pub const SCRIPT_EVENTS: [Event; 33] = [
+pub const SCRIPT_EVENTS: [Event; 38] = [
     Step1,
+    Step1Return(Clockwise),
+    Step1Return(Counterclockwise),
     Step2,
     Step3aBothFit,
     Step3aFirstFits,
     Step3aSecondFits,
+    Step3aReturn { stayed: Clockwise, moved: Clockwise },
+    Step3aReturn { stayed: Clockwise, moved: Counterclockwise },
+    Step3aReturn { stayed: Counterclockwise, moved: Counterclockwise },
+    Step3aReturn { stayed: Counterclockwise, moved: Clockwise },
     Step3bWithNew,
     Step3bOld,
     Step3bOverShared,
-    SharesWithTotalN,
     Closed,
     ClosedOneOfTwo,
     RingAccepted,
@@ -105,12 +118,14 @@ pub const SCRIPT_EVENTS: [Event; 33] = [
 ];
 
 /// Every event that the other lines of the planning program can show.
-pub const PLAN_EVENTS: [Event; 42] = [
+pub const PLAN_EVENTS: [Event; 44] = [
     Read,
     ReadBeforeRing,
     ReadReplaced,
     ReadWithRemark,
     ReadWithPair,
+    ReadWithReturn(Clockwise),
+    ReadWithReturn(Counterclockwise),
     ReadFault(Fault::Ring(Refusal::RingSize)),
     ReadFault(Fault::Ring(Refusal::NodePorts)),
     ReadFault(Fault::Ring(Refusal::RingPorts)),
@@ -154,14 +169,21 @@ impl fmt::Display for Event {
     fn fmt(&self, f: &mut fmt::Formatter) -> fmt::Result {
         f.write_str(match self {
             Step1 => "step 1",
+            Step1Return(way) => {
+                return write!(f, "  of these: a circuit and its return share {}", word(*way))
+            }
             Step2 => "step 2",
             Step3aBothFit => "step 3a, both members fit",
             Step3aFirstFits => "step 3a, the first member fits",
             Step3aSecondFits => "step 3a, the second member fits",
+            Step3aReturn { stayed, moved } => {
+                let who = if stayed == moved { "both" } else { "one" };
+                let way = word(*stayed);
+                return write!(f, "  of 3a: a circuit and its return share {way} as {who} stood");
+            }
             Step3bWithNew => "step 3b, two moves",
             Step3bOld => "step 3b, three moves",
             Step3bOverShared => "  of 3b: the direction's lowest place is shared",
-            SharesWithTotalN => "  of all openings: shares with hops of N in total",
             Closed => "closed",
             ClosedOneOfTwo => "  of these: one of two at a place",
             RingAccepted => "ring accepted",
@@ -185,6 +207,9 @@ impl fmt::Display for Event {
             ReadReplaced => "  of these: in place of another table",
             ReadWithRemark => "  of these: with a remark",
             ReadWithPair => "  of these: with two circuits at a place",
+            ReadWithReturn(way) => {
+                return write!(f, "  of these: a circuit and its return share {}", word(*way))
+            }
             ReadFault(fault) => {
                 let number = fault.refusal().number();
                 return write!(f, "read refused {number}{}", detail(*fault));
@@ -210,6 +235,13 @@ impl fmt::Display for Event {
             RefusedOver8192 => "line refused: over 8,192 bytes",
             Exactly8192Good => "good line of exactly 8,192 bytes",
         })
+    }
+}
+
+fn word(direction: Direction) -> &'static str {
+    match direction {
+        Clockwise => "clockwise",
+        Counterclockwise => "counterclockwise",
     }
 }
 

@@ -8,7 +8,7 @@ use std::collections::BTreeMap;
 use std::fmt;
 
 use crate::program::Program;
-use crate::table::{Channel, Table};
+use crate::table::Table;
 
 pub use event::{Event, PLAN_EVENTS, SCRIPT_EVENTS};
 
@@ -85,5 +85,5 @@ impl Before {
 }
 
 fn shared_places(table: &Table) -> usize {
-    table.channels.iter().filter(|channel| matches!(channel, Channel::Two(..))).count()
+    table.pairs().count()
 }

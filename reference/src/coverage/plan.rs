@@ -3,8 +3,11 @@
 use super::script::{narrow, sort_of_odd_bytes};
 use super::Event::*;
 use super::{Before, Coverage, Event};
+use crate::circuit::Circuit;
 use crate::form;
 use crate::lines::words;
+use crate::place::Direction::{Clockwise, Counterclockwise};
+use crate::place::Place;
 use crate::plan::{parse, Answer, Command, Planner, Question, Source, LINE_MOST};
 use crate::report::circuit_on_link;
 use crate::script;
@@ -56,7 +59,13 @@ impl Coverage {
         self.saw(Read);
         self.saw(if before.had_table { ReadReplaced } else { ReadBeforeRing });
         self.saw_if(table.circuits().any(|circuit| circuit.remark != 0), ReadWithRemark);
-        self.saw_if(Before::of(Some(table)).shared_places > 0, ReadWithPair);
+        self.saw_if(table.pairs().next().is_some(), ReadWithPair);
+        for way in [Clockwise, Counterclockwise] {
+            let is_return = |(place, a, b): (Place, Circuit, Circuit)| {
+                place.direction() == way && a.is_return_of(b)
+            };
+            self.saw_if(table.pairs().any(is_return), ReadWithReturn(way));
+        }
     }
 
     fn saw_refused_form(&mut self, line: &[u8]) {

@@ -2,11 +2,12 @@
 
 use super::Event::*;
 use super::{shared_places, Before, Coverage, Event};
-use crate::circuit::Circuit;
+use crate::circuit::can_share;
 use crate::lines::words;
 use crate::opening::{Move, Opening};
+use crate::place::Place;
 use crate::script::{parse, Answer, Desk, LINE_MOST};
-use crate::table::{Channel, Table};
+use crate::table::Table;
 
 impl Coverage {
     /// Runs the line at the desk, counts what it reached and gives its answer.
@@ -36,9 +37,9 @@ impl Coverage {
                 self.saw_if(before.had_table, RingReplaced);
             }
             Answer::RingRefused(refusal) => self.saw(RingRefused(refusal.number())),
-            Answer::Opened { number, opening, ref moves } => {
+            Answer::Opened { opening, ref moves, .. } => {
                 let table = table.expect("an opening has a table");
-                self.saw_opening(table, number, opening, moves);
+                self.saw_opening(table, opening, &moves[..opening.moves]);
             }
             Answer::OpenRefused { refusal, .. } => self.saw(OpenRefused(refusal.number())),
             Answer::Closed { .. } => {
@@ -53,45 +54,53 @@ impl Coverage {
         self.saw_numbers(line);
     }
 
-    fn saw_opening(&mut self, table: &Table, number: u32, opening: Opening, moves: &[Move]) {
+    fn saw_opening(&mut self, table: &Table, opening: Opening, moves: &[Move]) {
         self.most_looks = self.most_looks.max(opening.looks);
-        let channel = table.channels[opening.place.index()];
-        let shares = matches!(channel, Channel::Two(..));
-        self.saw(match opening.moves {
-            0 if shares => Step1,
-            0 => Step2,
-            1 => sort_of_3a(moves[0]),
-            2 => Step3bWithNew,
-            _ => Step3bOld,
+        match *moves {
+            [] => self.saw_unmoving(table, opening.place),
+            [moved] => self.saw_3a(table, moved),
+            [from_c, to_c, ..] => self.saw_3b(table, moves.len(), from_c, to_c),
+        }
+    }
+
+    /// Steps 1 and 2.
+    fn saw_unmoving(&mut self, table: &Table, place: Place) {
+        match table.pair_at(place) {
+            None => self.saw(Step2),
+            Some((a, b)) => {
+                self.saw(Step1);
+                self.saw_if(a.is_return_of(b), Step1Return(place.direction()));
+            }
+        }
+    }
+
+    fn saw_3a(&mut self, table: &Table, Move { from, to, .. }: Move) {
+        let (a, b) = table.pair_at(to).expect("3a puts a pair together");
+        let (stayed, moved) = (to.direction(), from.direction());
+        // The one that stayed stood in a fitting direction; the pair's first had the lower place.
+        self.saw(if can_share(table.nodes, moved, a, b) {
+            Step3aBothFit
+        } else if to < from {
+            Step3aFirstFits
+        } else {
+            Step3aSecondFits
         });
-        // Places 0 and 1 are the lowest of their directions; in 3b the first move is of x from c.
-        self.saw_if(opening.moves >= 2 && moves[0].from.0 >= 2, Step3bOverShared);
-        self.saw_if(is_total_of_n(channel, table.nodes, number), SharesWithTotalN);
+        self.saw_if(a.is_return_of(b), Step3aReturn { stayed, moved });
+    }
+
+    /// The first move is that of x from c, the second that of the pair's first member to c.
+    fn saw_3b(&mut self, table: &Table, moves: usize, from_c: Move, to_c: Move) {
+        let (a, b) = table.pair_at(to_c.to).expect("3b puts a pair together");
+        assert!(!a.is_return_of(b), "a circuit and its return never come to 3b");
+        self.saw(if moves == 2 { Step3bWithNew } else { Step3bOld });
+        // Places 0 and 1 are the lowest of their directions.
+        self.saw_if(from_c.from.0 >= 2, Step3bOverShared);
     }
 
     /// Counts a good line whose numbers have leading zeros.
     pub(super) fn saw_numbers(&mut self, line: &[u8]) {
         let zero_leads = |word: &[u8]| word.len() > 1 && word[0] == b'0';
         self.saw_if(words(line).any(zero_leads), LeadingZeroGood);
-    }
-}
-
-/// The pair's first member has the lower place; the one that moved did not stay.
-fn sort_of_3a(moved: Move) -> Event {
-    if moved.from < moved.to {
-        Step3aSecondFits
-    } else if moved.from.direction() == moved.to.direction() {
-        Step3aBothFit
-    } else {
-        Step3aFirstFits
-    }
-}
-
-fn is_total_of_n(channel: Channel, nodes: u8, number: u32) -> bool {
-    let total = |a: Circuit, b: Circuit| a.hops(nodes) + b.hops(nodes);
-    match channel {
-        Channel::Two(a, b) => (a.number == number || b.number == number) && total(a, b) == nodes,
-        _ => false,
     }
 }
 

@@ -1,11 +1,14 @@
 //! Tables that meet the ring rules with circuits wherever they may stand, as no row of openings
 //! leaves them; and tables that break a ring rule.
 
-use super::traffic::{free_number, off_ring, remark, some_of, Ports};
+use super::traffic::{free_number, off_ring, remark, some_of, Ends};
 use crate::circuit::{can_share, Circuit};
 use crate::place::Place;
 use crate::random::Random;
 use crate::table::{Channel, Lightpath, Table, NODE_PORTS_MOST};
+
+/// In how many of a hundred circuits of a table another one's return is wanted.
+const RETURNS: usize = 25;
 
 /// A table of the ring with these ports, from no circuit up to as many as find room; or one with
 /// all places lit and hardly any shared, so that the next opening has to move circuits.
@@ -26,16 +29,14 @@ pub fn scattered(ports: &[u8], random: &mut Random) -> Table {
 
 /// One circuit more and a place for it: in so many of a hundred one where it shares.
 fn one_more(table: &Table, share: usize, random: &mut Random) -> Option<Lightpath> {
-    let ports = Ports::of(table);
-    let circuit = Circuit {
-        number: free_number(table, random),
-        source: some_of(&ports.free_senders(), random)?,
-        destination: some_of(&ports.free_receivers(), random)?,
-        remark: remark(random),
-    };
-    if circuit.source == circuit.destination {
+    let mut ends = Ends::free(table)?;
+    ends.add_returns(table.circuits());
+    let (source, destination) = ends.draw(RETURNS, random);
+    if source == destination {
         return None;
     }
+    let number = free_number(table, random);
+    let circuit = Circuit { number, source, destination, remark: remark(random) };
     let (mut shared, mut unlit) = (Vec::new(), Vec::new());
     for place in (0..table.places_in_use() as u8).map(Place) {
         match table.channels[place.index()] {
@@ -112,6 +113,7 @@ fn move_port(table: &mut Table, random: &mut Random) {
 mod tests {
     use super::*;
     use crate::generator::rings::Shape;
+    use crate::place::Direction;
     use crate::table::Rule;
 
     fn tables(count: usize, random: &mut Random) -> Vec<Table> {
@@ -130,6 +132,22 @@ mod tests {
         assert!(tables.iter().any(|table| table.circuits().next().is_none()));
         let is_full = |table: &Table| table.nonsharing().count() == table.places_in_use();
         assert!(tables.iter().any(|table| table.nodes == 64 && is_full(table)));
+    }
+
+    #[test]
+    fn a_circuit_and_its_return_share_each_way_or_stand_alone() {
+        let tables = tables(300, &mut Random::new(3));
+        for way in [Direction::Clockwise, Direction::Counterclockwise] {
+            let shares = |(place, a, b): (Place, Circuit, Circuit)| {
+                place.direction() == way && a.is_return_of(b)
+            };
+            assert!(tables.iter().any(|table| table.pairs().any(shares)), "{way:?}");
+        }
+        let stand_alone = |table: &Table| {
+            let is_return = |a: Lightpath, b: Lightpath| a.circuit.is_return_of(b.circuit);
+            table.nonsharing().any(|a| table.nonsharing().any(|b| is_return(a, b)))
+        };
+        assert!(tables.iter().any(stand_alone));
     }
 
     #[test]

@@ -2,13 +2,17 @@
 
 use super::rings::Shape;
 use crate::circuit::{can_share, Circuit};
-use crate::opening::{Move, MOVES_MOST};
+use crate::opening::{Move, Opening, MOVES_MOST};
+use crate::place::{Direction, Place};
 use crate::random::Random;
 use crate::script::Request;
-use crate::table::{wavelengths_for, Channel, Lightpath, Table, NODES_MOST};
+use crate::table::{wavelengths_for, Lightpath, Table, NODES_MOST};
 
 /// Openings looked at before one is asked for.
 const TRIES: usize = 24;
+
+/// What an opening is worth at most.
+const WORTH_MOST: usize = 2;
 
 /// How the circuits of a ring grow in number and fall between two marks.
 #[derive(Default)]
@@ -22,6 +26,8 @@ pub struct Tide {
     spreads: bool,
     /// Whether half of the nodes only send or only receive, so that searches are long.
     apart: bool,
+    /// In how many of a hundred openings the return of a live circuit is wanted.
+    returns: usize,
 }
 
 impl Tide {
@@ -31,6 +37,7 @@ impl Tide {
         if shape == Shape::Light {
             return Tide { high: ports / 5, low: ports / 10, ..plain };
         }
+        let plain = Tide { returns: *random.pick(&[0, 40]), ..plain };
         if random.percent(25) {
             return Tide { low: random.between(ports / 2, ports), ..plain };
         }
@@ -67,19 +74,16 @@ impl Tide {
 
     /// An opening with both ports free, if one is found: the first, or the one worth most.
     fn opening(&self, table: &Table, random: &mut Random) -> Option<Circuit> {
-        let (sources, destinations) = self.free_ends(table)?;
-        let wanted = if self.spreads { random.between(1, 2) } else { 0 };
+        let ends = self.ends(table)?;
+        let wanted = if self.spreads { WORTH_MOST } else { 0 };
         let mut best = None;
         for _ in 0..TRIES {
-            let circuit = Circuit {
-                number: free_number(table, random),
-                source: *random.pick(&sources),
-                destination: *random.pick(&destinations),
-                remark: remark(random),
-            };
-            if circuit.source == circuit.destination {
+            let (source, destination) = ends.draw(self.returns, random);
+            if source == destination {
                 continue;
             }
+            let number = free_number(table, random);
+            let circuit = Circuit { number, source, destination, remark: remark(random) };
             let worth = if self.spreads { worth(table, circuit) } else { 0 };
             if best.is_none_or(|(most, _)| worth > most) {
                 best = Some((worth, circuit));
@@ -91,55 +95,46 @@ impl Tide {
         best.map(|(_, circuit)| circuit)
     }
 
-    /// The nodes with a free transmitter and those with a free receiver, if there are both.
-    fn free_ends(&self, table: &Table) -> Option<(Vec<u8>, Vec<u8>)> {
-        let ports = Ports::of(table);
-        let mut sources = ports.free_senders();
-        let mut destinations = ports.free_receivers();
-        if sources.is_empty() || destinations.is_empty() {
-            return None;
-        }
+    /// What openings are drawn from. If the circuits are to spread, returns are those of circuits
+    /// that share: the others would be joined.
+    fn ends(&self, table: &Table) -> Option<Ends> {
+        let mut ends = Ends::free(table)?;
         if self.apart {
-            keep_apart(table.nodes / 4, &mut sources, &mut destinations);
+            ends.keep_apart(table.nodes / 4);
         }
-        Some((sources, destinations))
+        if self.spreads {
+            ends.add_returns(table.pairs().flat_map(|(_, a, b)| [a, b]));
+        } else {
+            ends.add_returns(table.circuits());
+        }
+        Some(ends)
     }
 
     /// A live number, rather one of two at a place if the circuits are to spread.
     fn closing(&self, table: &Table, random: &mut Random) -> u32 {
         if self.spreads && random.percent(97) {
-            let shared: Vec<u32> = table.channels.iter().flat_map(numbers_sharing).collect();
-            if let Some(number) = some_of(&shared, random) {
+            if let Some(number) = some_of(&self.partings(table), random) {
                 return number;
             }
         }
         live_number(table, random).unwrap_or_else(|| number(random))
     }
-}
 
-/// Leaves the ways from the first quarter of the nodes to the second, if there are some,
-/// and then those within the other half.
-fn keep_apart(quarter: u8, sources: &mut Vec<u8>, destinations: &mut Vec<u8>) {
-    let sends = |&node: &u8| node <= quarter;
-    let receives = |&node: &u8| node > quarter && node <= 2 * quarter;
-    let does_both = |&node: &u8| node > 2 * quarter;
-    if sources.iter().any(sends) && destinations.iter().any(receives) {
-        sources.retain(sends);
-        destinations.retain(receives);
-    } else if sources.iter().any(does_both) && destinations.iter().any(does_both) {
-        sources.retain(does_both);
-        destinations.retain(does_both);
+    /// The numbers of those that share; where returns are sold and some of them have a partner
+    /// whose return stands alone, only these.
+    fn partings(&self, table: &Table) -> Vec<u32> {
+        let has_return_alone =
+            |circuit: Circuit| table.nonsharing().any(|old| old.circuit.is_return_of(circuit));
+        let sharing = table.pairs().flat_map(|(_, a, b)| [(a, b), (b, a)]);
+        let (apart, others): (Vec<_>, Vec<_>) =
+            sharing.partition(|(_, partner)| self.returns > 0 && has_return_alone(*partner));
+        let partings = if apart.is_empty() { others } else { apart };
+        partings.iter().map(|(circuit, _)| circuit.number).collect()
     }
 }
 
-fn numbers_sharing(channel: &Channel) -> Vec<u32> {
-    match channel {
-        Channel::Two(first, second) => vec![first.number, second.number],
-        _ => Vec::new(),
-    }
-}
-
-/// How rare the opening is: 0 by step 1, 2 for two moves, 1 for all others.
+/// What the opening is worth to scripts that are to reach step 3: nothing by step 1, most where it
+/// is by two moves, or where the circuit will be hard to join.
 fn worth(table: &Table, circuit: Circuit) -> usize {
     let joins =
         |old: Lightpath| can_share(table.nodes, old.place.direction(), old.circuit, circuit);
@@ -148,8 +143,18 @@ fn worth(table: &Table, circuit: Circuit) -> usize {
     }
     let mut moves = [Move::default(); MOVES_MOST];
     match table.clone().open_on_good_table(circuit, &mut moves) {
-        Ok(opening) if opening.moves == 2 => 2,
+        Ok(Opening { moves: 2, .. }) => WORTH_MOST,
+        Ok(Opening { moves: 0, place, .. }) if is_long(table.nodes, circuit, place) => WORTH_MOST,
         _ => 1,
+    }
+}
+
+/// Whether the lightpath runs over more than half of the ring, so that few others can join it.
+fn is_long(nodes: u8, circuit: Circuit, place: Place) -> bool {
+    let hops = circuit.hops(nodes);
+    match place.direction() {
+        Direction::Clockwise => 2 * hops > nodes,
+        Direction::Counterclockwise => 2 * hops < nodes,
     }
 }
 
@@ -200,15 +205,66 @@ fn several_faults(circuit: &mut Circuit, table: &Table, live: Option<u32>, rando
     }
 }
 
+/// Nodes between which both ports are free.
+pub struct Ends {
+    sources: Vec<u8>,
+    destinations: Vec<u8>,
+    /// Sources and destinations of returns.
+    returns: Vec<(u8, u8)>,
+}
+
+impl Ends {
+    /// The nodes with a free transmitter and those with a free receiver, if there are both.
+    pub fn free(table: &Table) -> Option<Ends> {
+        let ports = Ports::of(table);
+        let (sources, destinations) = (ports.free_senders(), ports.free_receivers());
+        let has_both = !sources.is_empty() && !destinations.is_empty();
+        has_both.then(|| Ends { sources, destinations, returns: Vec::new() })
+    }
+
+    /// Leaves the ways from the first quarter of the nodes to the second, if there are some,
+    /// and then those within the other half.
+    fn keep_apart(&mut self, quarter: u8) {
+        let sends = |&node: &u8| node <= quarter;
+        let receives = |&node: &u8| node > quarter && node <= 2 * quarter;
+        let does_both = |&node: &u8| node > 2 * quarter;
+        let Ends { sources, destinations, .. } = self;
+        if sources.iter().any(sends) && destinations.iter().any(receives) {
+            sources.retain(sends);
+            destinations.retain(receives);
+        } else if sources.iter().any(does_both) && destinations.iter().any(does_both) {
+            sources.retain(does_both);
+            destinations.retain(does_both);
+        }
+    }
+
+    /// Adds the ends of these circuits' returns, where they are among the sources and destinations.
+    pub fn add_returns(&mut self, circuits: impl Iterator<Item = Circuit>) {
+        let ends = circuits.map(|circuit| (circuit.destination, circuit.source));
+        let are_free = |(source, destination): &(u8, u8)| {
+            self.sources.contains(source) && self.destinations.contains(destination)
+        };
+        self.returns.extend(ends.filter(are_free));
+    }
+
+    /// A source and a destination: in so many of a hundred those of a return, if there is one.
+    pub fn draw(&self, returns: usize, random: &mut Random) -> (u8, u8) {
+        if random.percent(returns) && !self.returns.is_empty() {
+            return *random.pick(&self.returns);
+        }
+        (*random.pick(&self.sources), *random.pick(&self.destinations))
+    }
+}
+
 /// The free ports of each node of a ring; node 0 is no node.
-pub struct Ports {
+struct Ports {
     nodes: u8,
     transmitters_left: [u32; NODES_MOST as usize + 1],
     receivers_left: [u32; NODES_MOST as usize + 1],
 }
 
 impl Ports {
-    pub fn of(table: &Table) -> Ports {
+    fn of(table: &Table) -> Ports {
         let mut free = [0; NODES_MOST as usize + 1];
         for node in 1..=table.nodes {
             free[usize::from(node)] = table.ports_at(node);
@@ -222,12 +278,12 @@ impl Ports {
     }
 
     /// The nodes with a free transmitter.
-    pub fn free_senders(&self) -> Vec<u8> {
+    fn free_senders(&self) -> Vec<u8> {
         self.nodes(|node| self.transmitters_left[node] > 0)
     }
 
     /// The nodes with a free receiver.
-    pub fn free_receivers(&self) -> Vec<u8> {
+    fn free_receivers(&self) -> Vec<u8> {
         self.nodes(|node| self.receivers_left[node] > 0)
     }
 

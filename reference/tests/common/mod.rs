@@ -7,7 +7,7 @@ use ring::opening::{Move, Opening};
 use ring::program::Program;
 use ring::refusal::Refusal;
 use ring::script::Desk;
-use ring::table::Table;
+use ring::table::{Channel, Table};
 
 pub fn circuit(number: u32, source: u8, destination: u8) -> Circuit {
     Circuit { number, source, destination, remark: 0 }
@@ -15,6 +15,72 @@ pub fn circuit(number: u32, source: u8, destination: u8) -> Circuit {
 
 pub fn ring(ports: &[u8]) -> Table {
     Table::make(ports.len() as u8, ports).unwrap()
+}
+
+/// A table with these circuits at their places, the lower number of two given first.
+pub fn standing(ports: &[u8], circuits: &[(u8, Circuit)]) -> Table {
+    let mut table = ring(ports);
+    for &(place, circuit) in circuits {
+        let channel = &mut table.channels[usize::from(place)];
+        *channel = match *channel {
+            Channel::Unlit => Channel::One(circuit),
+            Channel::One(first) => Channel::Two(first, circuit),
+            Channel::Two(..) => panic!("three circuits at place {place}"),
+        };
+    }
+    assert!(table.meets_ring_rules());
+    table
+}
+
+/// The table on which document 01 opens 15: 12 and its return 14 both stand alone.
+pub fn ring_of_01() -> Table {
+    let circuits = [
+        (0, circuit(11, 1, 5)),
+        (1, circuit(12, 2, 3)),
+        (2, circuit(13, 4, 1)),
+        (3, circuit(14, 3, 2)),
+    ];
+    standing(&[1; 5], &circuits)
+}
+
+/// A ring and an opening by 3a: of 1→3 and 5→1, which fit clockwise, the first stands so.
+pub fn ring_where_first_fits() -> (Table, Circuit) {
+    let circuits = [
+        (0, circuit(1, 1, 3)),
+        (1, circuit(2, 4, 5)),
+        (2, circuit(3, 2, 4)),
+        (3, circuit(4, 5, 1)),
+    ];
+    (standing(&[1; 5], &circuits), circuit(5, 3, 2))
+}
+
+/// A ring and an opening by 3a: of 1→4 and 4→2, which fit counterclockwise, the second stands so.
+pub fn ring_where_second_fits() -> (Table, Circuit) {
+    let circuits = [
+        (0, circuit(1, 1, 4)),
+        (1, circuit(2, 2, 5)),
+        (2, circuit(3, 5, 3)),
+        (3, circuit(4, 4, 2)),
+    ];
+    (standing(&[1; 5], &circuits), circuit(5, 3, 1))
+}
+
+/// A ring of six nodes with every place lit: circuit 1 and its return 2 stand alone at these two
+/// places and are the first pair of step 3. The opening beside it can join none: its hops and
+/// those of 5, the other one alone, fit only in the direction in which 5 does not stand.
+pub fn ring_with_return(lower: u8, higher: u8) -> (Table, Circuit) {
+    let (others, new) = match (lower, higher) {
+        (0, 1) => ([(2, 1, 4), (2, 4, 5), (3, 5, 6)], circuit(6, 6, 1)),
+        (0, 2) => ([(1, 1, 5), (1, 5, 4), (3, 4, 6)], circuit(6, 6, 1)),
+        (1, 2) => ([(0, 1, 4), (0, 4, 5), (3, 5, 6)], circuit(6, 6, 1)),
+        (1, 3) => ([(0, 4, 6), (0, 6, 1), (2, 1, 5)], circuit(6, 5, 4)),
+        _ => panic!("no such ring is at hand"),
+    };
+    let mut circuits = vec![(lower, circuit(1, 2, 3)), (higher, circuit(2, 3, 2))];
+    for (number, (place, source, destination)) in (3..).zip(others) {
+        circuits.push((place, circuit(number, source, destination)));
+    }
+    (standing(&[1; 6], &circuits), new)
 }
 
 /// Opens with a list of three records.
