@@ -168,15 +168,13 @@ impl Rearranged<'_> {
         }
         let way = self.a.direction();
         let clash = self.a.common_links(self.b, way.opposite(), self.after.nodes());
-        let why = match clash[..] {
-            [] => String::new(),
-            _ => format!(
-                "{} both would need {}, so there they cannot share. ",
-                capital(way.opposite().word()),
-                links_in_words(&clash)
-            ),
-        };
-        format!("{why}{} they have no link in common. {stood}", capital(way.word()))
+        format!(
+            "{} both would need {}, so there they cannot share. {} they have no link in common. \
+             {stood}",
+            capital(way.opposite().word()),
+            links_in_words(&clash),
+            capital(way.word())
+        )
     }
 
     fn there_and_back(&self) -> bool {

@@ -1,5 +1,9 @@
 //! The planning program: its lines, its answers and its files.
 
+#[macro_use]
+#[path = "common/example.rs"]
+mod example;
+
 use std::fs;
 use std::io::BufReader;
 use std::path::PathBuf;
@@ -41,20 +45,9 @@ fn is_refused_line(line: &str) {
     assert_eq!(on_small(&format!("{line}\n")), "line refused\n", "{line}");
 }
 
-macro_rules! example {
-    ($name:ident, $file:literal) => {
-        #[test]
-        fn $name() {
-            let script = include_bytes!(concat!("../../examples/", $file, ".plan"));
-            let expected = include_str!(concat!("../../examples/", $file, ".expected"));
-            assert_eq!(answer(script), expected);
-        }
-    };
-}
-
-example!(example_forms, "forms");
-example!(example_planning, "planning");
-example!(example_saved, "saved");
+example!(example_forms, "forms", ".plan");
+example!(example_planning, "planning", ".plan");
+example!(example_saved, "saved", ".plan");
 
 #[test]
 fn the_script_programs_lines_are_answered_as_there() {

@@ -1,5 +1,9 @@
 //! The script program: its lines, its answers and the scripts of `examples/`.
 
+#[macro_use]
+#[path = "common/example.rs"]
+mod example;
+
 use std::io::BufReader;
 
 use ring::script::{run, Desk};
@@ -24,26 +28,15 @@ fn is_refused_line(line: &[u8]) {
     assert_eq!(on_ring(line), "line refused\n", "{}", line.escape_ascii());
 }
 
-macro_rules! example {
-    ($name:ident, $file:literal) => {
-        #[test]
-        fn $name() {
-            let script = include_bytes!(concat!("../../examples/", $file, ".script"));
-            let expected = include_str!(concat!("../../examples/", $file, ".expected"));
-            assert_eq!(answer(script), expected);
-        }
-    };
-}
-
-example!(example_01, "01");
-example!(example_exercises, "exercises");
-example!(example_filling, "filling");
-example!(example_one_move, "one-move");
-example!(example_two_moves, "two-moves");
-example!(example_three_moves, "three-moves");
-example!(example_returns, "returns");
-example!(example_refusals, "refusals");
-example!(example_dimensions, "dimensions");
+example!(example_01, "01", ".script");
+example!(example_exercises, "exercises", ".script");
+example!(example_filling, "filling", ".script");
+example!(example_one_move, "one-move", ".script");
+example!(example_two_moves, "two-moves", ".script");
+example!(example_three_moves, "three-moves", ".script");
+example!(example_returns, "returns", ".script");
+example!(example_refusals, "refusals", ".script");
+example!(example_dimensions, "dimensions", ".script");
 
 #[test]
 fn the_script_of_document_01() {

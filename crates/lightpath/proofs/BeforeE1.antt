@@ -12,7 +12,8 @@ use Rattle.lightpath.specs.BeforeE1.{canShareBeforeE1}
 
 -- a pair whose hops total N could not share counterclockwise
 pub before-one : (N : ℕ) (a b : Circuit) → hops N a + hops N b ≡ N → canShareBeforeE1 N counterclockwise a b ≡ false
-before-one N a b e = sym (fails _ (λ h. let more : N < hops N a + hops N b = ltb-true _ _ (and-right (adjacent a b) _ h) in omega arith))
+before-one N a b e =
+    sym (fails (canShareBeforeE1 N counterclockwise a b) (λ h. let more = and-right (adjacent a b) _ h in omega (arith, leb-true)))
 
 -- a pair that could share can share
 pub before-can : (N : ℕ) (d : Direction) (a b : Circuit) → canShareBeforeE1 N d a b ≡ true → canShare N d a b ≡ true

@@ -6,7 +6,7 @@ use mathlib.Core.Bool.{Bool, true, false, or-comm}
 use native.Mathlib.Nat.{add-comm}
 use native.Mathlib.Omega.{arith}
 use lib.Dec.{eqb}
-use borrow.Author.Tests.{leb-true, leb-false, ltb-true, le-leb, eq-eqb}
+use borrow.Author.Tests.{leb-true, leb-false, le-leb, eq-eqb}
 use Rattle.basis.specs.Choice.{pick, bit}
 use Rattle.basis.proofs.Bools.{and-left, and-right, fails}
 use Rattle.basis.proofs.Weigh.{bit-most}
@@ -35,8 +35,8 @@ can-swap N counterclockwise a b h = rw (adjacent-swap b a, add-comm (hops N b) (
 
 -- the total of the hops of a pair that shares suits the direction
 suits : (N : ℕ) (d : Direction) (a b : Circuit) → canShare N d a b ≡ true → Suits N d (hops N a + hops N b)
-suits N clockwise a b h = let fits = and-right (adjacent a b) _ h in omega (arith, leb-true, ltb-true)
-suits N counterclockwise a b h = let fits = and-right (adjacent a b) _ h in omega (arith, leb-true, ltb-true)
+suits N clockwise a b h = let fits = and-right (adjacent a b) _ h in omega (arith, leb-true)
+suits N counterclockwise a b h = let fits = and-right (adjacent a b) _ h in omega (arith, leb-true)
 
 -- a pair that shares has no link in common
 pub share-links : (N : ℕ) (d : Direction) (a b : Circuit) (l : ℕ) → canShare N d a b ≡ true → joins N a ≡ true → joins N b ≡ true → 1 ≤ l → l ≤ N
@@ -51,8 +51,12 @@ share-links N d a b l can ja jb low high = go (uses N d a l) refl (uses N d b l)
 
 -- a pair whose hops total N can share in both directions
 pub can-both : (N : ℕ) (d : Direction) (a b : Circuit) → adjacent a b ≡ true → hops N a + hops N b ≡ N → canShare N d a b ≡ true
-can-both N clockwise a b h e = rw (h, le-leb (hops N a + hops N b) N (omega arith))
-can-both N counterclockwise a b h e = rw (h, le-leb N (hops N a + hops N b) (omega arith))
+can-both N d a b h e = go d (canShare N d a b) refl
+  where
+    go : (d : Direction) (o : Bool) → canShare N d a b ≡ o → o ≡ true
+    go d true q = refl
+    go clockwise false q = let above = rw h at q in absurd (omega (arith, leb-false))
+    go counterclockwise false q = let below = rw h at q in absurd (omega (arith, leb-false))
 
 -- so a circuit and its return fit together either way round, on every ring
 pub return-shares : (N : ℕ) (d : Direction) (a b : Circuit) → joins N a ≡ true → a .destination ≡ b .source → b .destination ≡ a .source
