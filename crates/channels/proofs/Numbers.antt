@@ -16,6 +16,7 @@ use Rattle.basis.proofs.Search.{first-passes, none-passes-below, first-only, fi
 use Rattle.basis.proofs.Weigh.{distinct-most, most-distinct, counted, keyed, keyed-none, keyed-each}
 use Rattle.limits.specs.Limits.{placeCount}
 use Rattle.lightpath.specs.declared.Circuit.{Circuit}
+use Rattle.lightpath.proofs.Same.{same-circuit}
 use Rattle.slots.specs.Slot.{held, holds}
 use Rattle.slots.specs.declared.Slot.the-variants.{Unlit as unlit}
 use Rattle.slots.proofs.Contents.{ofNumber, holds-count, named-weighs}
@@ -84,16 +85,6 @@ module _ (t : Channels) (numbers : distinct (λ c. c .number) (circuits t) ≡ t
       go : Dec (0 < numbered n (held (at t p))) → numbered n (held (at t p)) ≡ bit (eqb (whereIs t n) p)
       go (yes h) = omega (arith, most, bit-eq (whereIs t n) p (stands-at p l h))
       go (no h) = omega (arith, bit-ne (whereIs t n) p (other (omega arith)))
-
--- circuits that no weight tells apart are one
-same-circuit : (a b : Circuit) → ((w : Circuit → ℕ) → w a ≡ w b) → a ≡ b
-same-circuit a b h =
-    λ i. record {
-      number = h (λ c. c .number) i;
-      source = h (λ c. c .source) i;
-      destination = h (λ c. c .destination) i;
-      remark = h (λ c. c .remark) i;
-    }
 
 module _ (t : Channels) (numbers : distinct (λ c. c .number) (circuits t) ≡ true) (long : length t ≡ placeCount) where
   -- so it is in a table

@@ -13,7 +13,7 @@ use Rattle.channels.specs.declared.Channel.{Channel}
 use Rattle.channels.specs.Channels.{Channels}
 use Rattle.refusals.specs.declared.Refusal.{Refusal}
 use Rattle.form.specs.Reader.{Field, got, fault, Reader, andThen}
-use Rattle.form.specs.Reading.{readPlace, readRecords}
+use Rattle.form.specs.Reading.{readPlace, readRecordsBy, readRecords}
 use Rattle.decode_record.specs.declared.SlotRead.{SlotRead}
 use Rattle.decode_record.specs.declared.SlotRead.the-variants.{Got, Refused}
 use Rattle.decode.specs.declared.places.RecordsRead.{RecordsRead}
@@ -52,7 +52,7 @@ module _ (lit : ℕ → Bool) (b : List ℕ) (start : ℕ) where
     module _ (h : p < placeCount) (r : SlotRead) (a : SlotAt b r (readPlace (lit p) (drop i b))) where
       rest : (f : Field Slot) → readPlace (lit p) (drop i b) ≡ f → readRecords lit placeCount 0 (drop start b)
           ≡ after (take p chs) (andThen f (λ slot s. andThen (readRecords lit (placeCount - (p + 1)) (suc p) s) (λ chs s. got (record { slot = slot } ∷ chs) s)))
-      unfolding readRecords
+      unfolding readRecordsBy
       rest f g = let k : placeCount - p ≡ suc (placeCount - (p + 1)) = omega arith in q .is ∙ rw (k, g)
 
       pub listing-fault : (n : Refusal) → r ≡ Refused n → readRecords lit placeCount 0 (drop start b) ≡ fault n
@@ -70,7 +70,7 @@ module _ (lit : ℕ → Bool) (b : List ℕ) (start : ℕ) where
           }
 
     pub listing-all : placeCount ≤ p → p ≤ placeCount → readRecords lit placeCount 0 (drop start b) ≡ got chs (drop i b)
-    unfolding after readRecords
+    unfolding after readRecordsBy
     listing-all h l = let e : p ≡ placeCount = omega arith in q .is ∙ rw (e, take-all placeCount chs (omega (arith, q .long)), append-nil chs)
 
 -- a refusal is all that is read
@@ -86,7 +86,7 @@ then-same (fault n) g h e = refl
 
 -- maps that agree have the same records
 pub records-same : (f g : ℕ → Bool) (k p : ℕ) (s : List ℕ) → ((j : ℕ) → j < p + k → f j ≡ g j) → readRecords f k p s ≡ readRecords g k p s
-unfolding readRecords
+unfolding readRecordsBy
 records-same f g zero p s h = refl
 records-same f g (suc k) p s h =
     rw (h p (omega arith)) (then-same (readPlace (g p) s) _ _ (λ slot s. rw (records-same f g k (suc p) s (λ j l. h j (omega arith)))))

@@ -11,7 +11,7 @@ use Rattle.lit_words.specs.Lit.{bitOf}
 use Rattle.refusals.specs.declared.Refusal.{Refusal}
 use Rattle.refusals.specs.declared.Refusal.the-variants.{CutShort, BadField}
 use Rattle.form.specs.Reader.{got, fault, andThen}
-use Rattle.form.specs.Reading.{readCircuit, mapHolds, readSecond, readRecord, readPlace}
+use Rattle.form.specs.Reading.{readCircuit, mapHolds, readSecond, readRecord, readPlaceBy, readPlace}
 use Rattle.decode_record.specs.declared.circuit.CircuitRead.{CircuitRead}
 use Rattle.decode_record.specs.declared.circuit.CircuitRead.the-variants.{Got, Refused}
 use Rattle.decode_record.specs.declared.SlotRead.{SlotRead}
@@ -70,11 +70,11 @@ pub ruleset recordRules = (record-cut, map-bad, record-fault, first-within, reco
 
 -- a place has a record only where it is lit
 pub place-lit : (b s : List ℕ) (lit : Bool) (r : SlotRead) → lit ≡ true → SlotAt b r (readRecord s) → SlotAt b r (readPlace lit s)
-unfolding readPlace
+unfolding readPlaceBy
 place-lit b s lit r e h = rw e h
 
 pub place-unlit : (s : List ℕ) (lit : Bool) → lit ≡ false → readPlace lit s ≡ got unlit s
-unfolding readPlace
+unfolding readPlaceBy
 place-unlit s lit e = rw e
 
 pub ruleset placeRules = (place-lit, place-unlit)

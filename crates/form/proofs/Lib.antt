@@ -9,4 +9,5 @@ pub mod Unique
 pub mod Tables
 pub mod Length
 pub mod Laws
+pub mod Agreeing
 pub mod BeforeE1

@@ -9,9 +9,10 @@ use lib.Dec.{leb}
 use lib.ListN.{length, take, drop, replicate}
 use lib.Seq.{take-at, length-take-le}
 use borrow.Author.Tests.{le-leb, leb-true, eqb-true}
-use Rattle.basis.specs.Count.{total}
+use Rattle.basis.specs.Count.{total, All}
 use Rattle.basis.proofs.Bools.{and-left, and-right, all-right}
 use Rattle.limits.specs.Limits.{placeCount}
+use Rattle.slots.specs.declared.Slot.{Slot}
 use Rattle.lit_words.specs.Lit.{noneLitFrom}
 use Rattle.lit_words.proofs.NoneLit.{none-lit-same}
 use Rattle.channels.specs.Channels.{Channels, litAt}
@@ -22,11 +23,11 @@ use Rattle.ring.specs.Table.{meetsRules, freshTable, withChannels}
 use Rattle.ring.specs.declared.RingTable.{RingTable}
 use Rattle.ring.proofs.TableRules.{table-rules, table-limits}
 use Rattle.form.specs.Form.{mapBytes, mapWidth, recordsBytes, portsBytes, formOf}
-use Rattle.form.specs.Reader.{got, byte, bytes, end}
-use Rattle.form.specs.Reading.{readPorts, mapBit, readMap, readRecords, checked, readTable}
+use Rattle.form.specs.Reader.{got, Reader, byte, bytes, end}
+use Rattle.form.specs.Reading.{readRecord, readPorts, mapBit, readMap, readRecordsBy, readRecords, checked, readBy, readTable}
 use Rattle.form.proofs.MapBytes.{map-long, map-says, map-is}
 use Rattle.form.proofs.Ports.{total-nodes, nodes-zeros}
-use Rattle.form.proofs.Trip.{bytes-back, records-back}
+use Rattle.form.proofs.Trip.{bytes-back, PlaceBack, places-back, records-back}
 use Rattle.form.proofs.Fields.{Holds, then-holds, then-any, unless-holds, AreBytes, Wrote, byte-is, bytes-are, bytes-wrote}
 use Rattle.form.proofs.Unique.{RecordsWrote, records-wrote}
 
@@ -49,10 +50,10 @@ checked-back : (t : RingTable) (ks : List ℕ) → meetsRules t ≡ true → len
 unfolding checked
 checked-back t ks m e p = rw (e, p, m)
 
--- a table that meets the ring rules is read back from its form
-pub table-back : (t : RingTable) → meetsRules t ≡ true → readTable (formOf t) ≡ got t []
-unfolding readTable formOf
-table-back t m =
+-- a table that meets the ring rules is read back from its form, where each place is
+pub table-back-by : (one : Reader Slot) (t : RingTable) → meetsRules t ≡ true → All (λ ch. PlaceBack one (ch .slot)) (t .channels) → readBy one checked (formOf t) ≡ got t []
+unfolding formOf
+table-back-by one t m k =
     let r = table-rules t m in
     let l = table-limits t m in
     let lit : ℕ → Bool = litAt (t .channels) in
@@ -60,8 +61,8 @@ table-back t m =
     let sum : total (portsBytes t) ≡ total (t .ports) = total-nodes (t .nodes) (t .ports) spare in
     let count : length (portsBytes t) ≡ t .nodes = length-take-le (t .nodes) (t .ports) (omega (arith, l .most, l .fields)) in
     let ports : portsBytes t ++ replicate (64 - t .nodes) 0 ≡ t .ports = rw (l .fields) at (nodes-zeros (t .nodes) (t .ports) spare) in
-    let records : readRecords (mapBit (mapBytes lit mapWidth 0)) placeCount 0 (recordsBytes (t .channels)) ≡ got (t .channels) [] =
-    rw (append-nil, l .long) at (records-back (mapBit (mapBytes lit mapWidth 0)) (t .channels) 0 [] (λ j k. rw zero-add (map-says lit j (omega (arith, l .long))))) in
+    let records : readRecordsBy one (mapBit (mapBytes lit mapWidth 0)) placeCount 0 (recordsBytes (t .channels)) ≡ got (t .channels) [] =
+    rw (append-nil, l .long) at (records-back one (mapBit (mapBytes lit mapWidth 0)) (t .channels) 0 [] k (λ j h. rw zero-add (map-says lit j (omega (arith, l .long))))) in
     rw (
       ports-back (t .nodes) (portsBytes t) (mapBytes lit mapWidth 0 ++ recordsBytes (t .channels)) (l .three) (l .most) count
           (each-take 64 (t .nodes) (t .ports) (search (and-left, and-right))) (omega (arith, sum, leb-true (total (t .ports)) 192 (search (and-left, and-right)))),
@@ -69,6 +70,10 @@ table-back t m =
       records,
       checked-back t (portsBytes t) m count ports,
     )
+
+pub table-back : (t : RingTable) → meetsRules t ≡ true → readTable (formOf t) ≡ got t []
+unfolding readTable
+table-back t m = table-back-by readRecord t m (places-back (t .channels))
 
 -- the ports of the nodes stand after their number
 pub ports-are : (s : List ℕ) → Holds (λ ks r. s ≡ length ks ∷ (ks ++ r)) (readPorts s)

@@ -9,6 +9,7 @@ use lib.Dec.{eqb}
 use lib.ListN.{length, length-append}
 use lib.Seq.{take-at, drop-at}
 use borrow.Author.Tests.{le-leb, eqb-true}
+use Rattle.basis.specs.Count.{All}
 use Rattle.lightpath.specs.declared.Circuit.{Circuit}
 use Rattle.slots.specs.declared.Slot.{Slot}
 use Rattle.slots.specs.declared.Slot.the-variants.{Unlit as unlit, Alone as alone, Shared as shared}
@@ -16,8 +17,8 @@ use Rattle.slots.specs.Slot.{isLit}
 use Rattle.channels.specs.Channels.{Channels, litAt}
 use Rattle.form.specs.Bytes.{highFirst}
 use Rattle.form.specs.Form.{present, optionalBytes, numberWidth, remarkWidth, circuitBytes, fieldBits, fieldMap, recordBytes, recordsBytes}
-use Rattle.form.specs.Reader.{got, bytes}
-use Rattle.form.specs.Reading.{readOptional, readCircuit, readSecond, readRecord, readPlace, readRecords}
+use Rattle.form.specs.Reader.{got, Reader, bytes}
+use Rattle.form.specs.Reading.{readOptional, readCircuit, readSecond, readRecord, readPlaceBy, readRecordsBy}
 use Rattle.form.proofs.Numbers.{high-long, high-number}
 use Rattle.form.proofs.FieldMap.{map-bit, field-map-holds}
 
@@ -66,19 +67,27 @@ shared-back a b s =
       circuit-back b s,
     )
 
--- a place is, lit or not
-place-back : (x : Slot) (s : List ℕ) → readPlace (isLit x) (recordBytes x ++ s) ≡ got x s
-unfolding readPlace recordBytes
+-- what a place holds is read back by `one`
+abbrev pub PlaceBack : Reader Slot → Slot → Type 0
+PlaceBack one x = (s : List ℕ) → readPlaceBy one (isLit x) (recordBytes x ++ s) ≡ got x s
+
+-- it is, lit or not
+pub place-back : (x : Slot) → PlaceBack readRecord x
+unfolding readPlaceBy recordBytes
 place-back unlit s = refl
 place-back (alone a) s = alone-back a s
 place-back (shared a b) s = rw append-assoc (shared-back a b s)
 
--- the records of all places are, where lit says which of them are lit
-pub records-back : (lit : ℕ → Bool) (chs : Channels) (p : ℕ) (s : List ℕ) → ((j : ℕ) → j < length chs → lit (p + j) ≡ litAt chs j)
-    → readRecords lit (length chs) p (recordsBytes chs ++ s) ≡ got chs s
-unfolding readRecords recordsBytes
-records-back lit [] p s h = refl
-records-back lit (ch ∷ chs) p s h =
+pub places-back : (chs : Channels) → All (λ ch. PlaceBack readRecord (ch .slot)) chs
+places-back [] = tt
+places-back (ch ∷ chs) = (place-back (ch .slot), places-back chs)
+
+-- the records of all places are, where each place is and lit says which of them are lit
+pub records-back : (one : Reader Slot) (lit : ℕ → Bool) (chs : Channels) (p : ℕ) (s : List ℕ) → All (λ ch. PlaceBack one (ch .slot)) chs
+    → ((j : ℕ) → j < length chs → lit (p + j) ≡ litAt chs j) → readRecordsBy one lit (length chs) p (recordsBytes chs ++ s) ≡ got chs s
+unfolding readRecordsBy recordsBytes
+records-back one lit [] p s k h = refl
+records-back one lit (ch ∷ chs) p s k h =
     let e : lit p ≡ isLit (ch .slot) = rw add-zero at (h 0 (omega arith)) in
-    let t = records-back lit chs (suc p) s (λ j l. rw (suc-add, ← add-suc) (h (suc j) (omega arith))) in
-    rw (append-assoc, e, place-back (ch .slot) (recordsBytes chs ++ s), t)
+    let t = records-back one lit chs (suc p) s (k .1) (λ j l. rw (suc-add, ← add-suc) (h (suc j) (omega arith))) in
+    rw (append-assoc, e, k .0 (recordsBytes chs ++ s), t)

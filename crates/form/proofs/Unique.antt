@@ -16,7 +16,7 @@ use Rattle.refusals.specs.declared.Refusal.the-variants.{BadField}
 use Rattle.form.specs.Bytes.{numberIn}
 use Rattle.form.specs.Form.{present, optionalBytes, numberWidth, remarkWidth, circuitBytes, fieldBits, fieldMap, recordBytes, recordsBytes}
 use Rattle.form.specs.Reader.{byte, bytes}
-use Rattle.form.specs.Reading.{readOptional, readCircuit, mapHolds, readSecond, readRecord, readPlace, readRecords}
+use Rattle.form.specs.Reading.{readOptional, readCircuit, mapHolds, readSecond, readRecord, readPlaceBy, readPlace, readRecordsBy, readRecords}
 use Rattle.form.proofs.Numbers.{high-is}
 use Rattle.form.proofs.FieldMap.{field-map-is, second-absent}
 use Rattle.form.proofs.Fields.{Holds, then-holds, unless-holds, AreBytes, Wrote, wrote, byte-wrote, bytes-wrote}
@@ -65,7 +65,7 @@ record-wrote s h =
 
 -- so is a place, lit or not
 place-wrote : (l : Bool) (s : List ℕ) → AreBytes s → Holds (λ x r. Wrote recordBytes s x r × (isLit x ≡ l)) (readPlace l s)
-unfolding readPlace recordBytes
+unfolding readPlaceBy recordBytes
 place-wrote false s h = (wrote recordBytes s unlit s h refl, refl)
 place-wrote true s h = record-wrote s h
 
@@ -83,7 +83,7 @@ says-more lit k p x chs e h (suc j) l = rw (add-suc, ← suc-add) (h j (omega ar
 
 -- the records that are read are those written
 pub records-wrote : (lit : ℕ → Bool) (k p : ℕ) (s : List ℕ) → AreBytes s → Holds (RecordsWrote lit k p s) (readRecords lit k p s)
-unfolding readRecords recordsBytes
+unfolding readRecordsBy recordsBytes
 records-wrote lit zero p s h = record { wrote = wrote recordsBytes s [] s h refl; long = refl; says = λ j l. absurd (omega arith) }
 records-wrote lit (suc k) p s h =
     then-holds _ _ (readPlace (lit p) s) _ (place-wrote (lit p) s h) λ x s1 q.

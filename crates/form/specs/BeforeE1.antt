@@ -6,7 +6,7 @@ use mathlib.Core.List.{List}
 use Rattle.rules.specs.BeforeE1.{ringRulesBeforeE1}
 use Rattle.ring.specs.declared.RingTable.{RingTable}
 use Rattle.ring.specs.declared.Answered.{Answered}
-use Rattle.form.specs.Reading.{checkedBy, readBy, answeredBy}
+use Rattle.form.specs.Reading.{readRecord, checkedBy, readBy, answeredBy}
 
 -- the table met the ring rules
 abbrev pub metRulesBeforeE1 : RingTable → Bool
@@ -14,4 +14,4 @@ metRulesBeforeE1 t = ringRulesBeforeE1 (t .nodes) (t .ports) (t .channels)
 
 -- how a form was read
 abbrev pub readBeforeE1 : List ℕ → Answered
-readBeforeE1 s = answeredBy (readBy (checkedBy metRulesBeforeE1) s)
+readBeforeE1 s = answeredBy (readBy readRecord (checkedBy metRulesBeforeE1) s)

@@ -74,26 +74,35 @@ readSecond a true remarked = do
   b ← readCircuit remarked
   give (shared a b)
 
--- the field map, then each circuit
-unfoldable pub readRecord : Reader Slot
-readRecord = do
+-- the field map, which passes the test `holds`, then each circuit
+abbrev pub readRecordBy : (ℕ → Bool) → Reader Slot
+readRecordBy holds = do
   m ← byte
-  no-31 unless mapHolds m
+  no-31 unless holds m
   a ← readCircuit (bitOf m 0)
   readSecond a (bitOf m 1) (bitOf m 2)
 
--- a place whose bit doesn't stand has no record
-unfoldable pub readPlace : Bool → Reader Slot
-readPlace false = give unlit
-readPlace true = readRecord
+unfoldable pub readRecord : Reader Slot
+readRecord = readRecordBy mapHolds
 
--- the records of the k places from p on
-unfoldable pub readRecords : (ℕ → Bool) → ℕ → ℕ → Reader Channels
-readRecords lit zero p = give []
-readRecords lit (suc k) p = do
-  slot ← readPlace (lit p)
-  chs ← readRecords lit k (suc p)
+-- a place whose bit doesn't stand has no record
+unfoldable pub readPlaceBy : Reader Slot → Bool → Reader Slot
+readPlaceBy one false = give unlit
+readPlaceBy one true = one
+
+abbrev pub readPlace : Bool → Reader Slot
+readPlace = readPlaceBy readRecord
+
+-- the records of the k places from p on, each read by `one`
+unfoldable pub readRecordsBy : Reader Slot → (ℕ → Bool) → ℕ → ℕ → Reader Channels
+readRecordsBy one lit zero p = give []
+readRecordsBy one lit (suc k) p = do
+  slot ← readPlaceBy one (lit p)
+  chs ← readRecordsBy one lit k (suc p)
   give (record { slot = slot } ∷ chs)
+
+abbrev pub readRecords : (ℕ → Bool) → ℕ → ℕ → Reader Channels
+readRecords = readRecordsBy readRecord
 
 -- the table that was read; 33 where it fails the test `meets`
 abbrev pub checkedBy : (RingTable → Bool) → List ℕ → Channels → Reader RingTable
@@ -106,18 +115,18 @@ checkedBy meets ks chs = do
 unfoldable pub checked : List ℕ → Channels → Reader RingTable
 checked ks chs = checkedBy meetsRules ks chs
 
--- the whole form, with a check of the table at its end
-abbrev pub readBy : (List ℕ → Channels → Reader RingTable) → Reader RingTable
-readBy check = do
+-- the whole form, its records read by `one`, with a check of the table at its end
+abbrev pub readBy : Reader Slot → (List ℕ → Channels → Reader RingTable) → Reader RingTable
+readBy one check = do
   ks ← readPorts
   m ← readMap (limitOf ks)
-  chs ← readRecords (mapBit m) placeCount 0
+  chs ← readRecordsBy one (mapBit m) placeCount 0
   end
   check ks chs
 
 -- the whole form
 unfoldable pub readTable : Reader RingTable
-readTable = readBy checked
+readTable = readBy readRecord checked
 
 -- a refused reading hands back the blank table
 abbrev pub answeredBy : Field RingTable → Answered

@@ -1,4 +1,5 @@
--- The laws of the geometry: places, links, which two circuits can share and could before E1, and the tests of circuits.
+-- The laws of the geometry: circuits by their fields, places, links, which two can share and could before E1, and the tests of circuits.
+pub mod Same
 pub mod Places
 pub mod Links
 pub mod Share
