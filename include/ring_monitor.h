@@ -65,7 +65,7 @@ enum ring_refusal {
  *
  * `form` points to `length` bytes, which no other thread writes during the call; it may be NULL where `length` is 0.
  * The bytes are read and not kept. The call allocates nothing, keeps no state and may be made from several threads. It
- * reads the whole form and tests every ring rule each time: some 12 to 20 microseconds for the longest form
+ * reads the whole form and tests every ring rule each time: some 4 to 8 microseconds for the longest form
  * (docs/PERFORMANCE.md).
  */
 uint64_t ring_link(const uint8_t *form, size_t length, uint64_t link, uint64_t wavelength, uint64_t direction);
