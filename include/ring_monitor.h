@@ -19,13 +19,14 @@ extern "C" {
 
 /*
  * The version of this interface: it changes when a form, an answer or a refusal number does. Every form that version 1
- * answers for has the same answers in version 2. A ring saved by the controller may have a circuit and its return at a
- * counterclockwise place, which an archive of version 1 refuses by 33: link monitors anew first.
+ * or 2 answers for has the same answers in version 3. A ring saved by the controller may have a circuit and its return
+ * at a counterclockwise place, which an archive of version 1 refuses by 33, and circuits with accounts, which one of
+ * version 1 or 2 refuses by 31: link monitors anew first.
  */
-#define RING_MONITOR_VERSION 2
+#define RING_MONITOR_VERSION 3
 
 /* The most bytes that a saved form has. A longer sequence of bytes is refused like any other that is no form. */
-#define RING_FORM_MOST 1745
+#define RING_FORM_MOST 2513
 
 /* The most stack that a call takes, in bytes, with room to spare; it allocates nothing else. */
 #define RING_LINK_STACK 65536
@@ -50,7 +51,7 @@ enum ring_refusal {
     RING_PORT_COUNT = 2,      /* a node has more than 64 ports */
     RING_PORT_SUM = 3,        /* the port counts add up to more than 192 */
     RING_CUT_SHORT = 30,      /* a field ends early, or there are no bytes */
-    RING_BAD_FIELD = 31,      /* a bit that may not be set, or a written remark of 0 */
+    RING_BAD_FIELD = 31,      /* a bit that may not be set, or a written remark or account of 0 */
     RING_TRAILING_BYTES = 32, /* bytes after the last record */
     RING_BROKEN_FORM = 33,    /* a ring rule is broken */
     RING_NO_LINK = 10,        /* the link is not 1 to the number of nodes */

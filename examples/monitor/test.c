@@ -35,6 +35,13 @@ static const uint8_t edge_form[] = {
     3, 0, 0, 0, 0, 1, 2, 0, 7, 0xff, 0xff, 0xff, 0xff, 2, 3
 };
 
+/* The same, and each of the two has an account. */
+static const uint8_t billed_form[] = {
+    3, 2, 2, 2,
+    0x01, 0, 0, 0, 0, 0, 0, 0, 0, 0, 0, 0, 0, 0, 0, 0,
+    0x1b, 0, 0, 0, 0, 1, 2, 0, 7, 1, 0, 0, 0, 0xff, 0xff, 0xff, 0xff, 2, 3, 0, 0, 0, 1
+};
+
 /* 3 nodes with no port: there is no wavelength. */
 static const uint8_t dark_form[] = { 3, 0, 0, 0, 0, 0, 0, 0, 0, 0, 0, 0, 0, 0, 0, 0, 0, 0, 0, 0 };
 
@@ -116,27 +123,37 @@ static uint64_t damaged(const uint8_t *form, size_t length, size_t at, uint8_t b
     return ring_link(copy, length, 0, 0, 0);
 }
 
-static void forms(void)
+/* Each beginning of a form, in a copy on the heap, so that a read past its end is found by a checker of memory. */
+static void cuts(const char *what, const uint8_t *form, size_t whole)
 {
-    uint8_t longer[sizeof script_form + 1] = { 0 };
     size_t length;
 
-    expect("number 0", ring_link(edge_form, sizeof edge_form, 1, 0, 0), 0);
-    expect("highest number", ring_link(edge_form, sizeof edge_form, 2, 0, 0), UINT64_C(4294967295));
-    expect("neither", ring_link(edge_form, sizeof edge_form, 3, 0, 0), RING_NONE);
-
-    expect("no bytes", ring_link(NULL, 0, 1, 0, 0), RING_NONE + RING_CUT_SHORT);
-    expect("no bytes of some", ring_link(script_form, 0, 1, 0, 0), RING_NONE + RING_CUT_SHORT);
-    for (length = 0; length < sizeof script_form; length++) {
-        /* a copy on the heap, so that a read past its end is found by a checker of memory */
+    for (length = 0; length < whole; length++) {
         uint8_t *cut = malloc(length + 1);
         if (cut == NULL) {
             abort();
         }
-        memcpy(cut + 1, script_form, length);
-        expect("cut short", ring_link(cut + 1, length, 1, 0, 0), RING_NONE + RING_CUT_SHORT);
+        memcpy(cut + 1, form, length);
+        expect(what, ring_link(cut + 1, length, 1, 0, 0), RING_NONE + RING_CUT_SHORT);
         free(cut);
     }
+}
+
+static void forms(void)
+{
+    uint8_t longer[sizeof script_form + 1] = { 0 };
+
+    expect("number 0", ring_link(edge_form, sizeof edge_form, 1, 0, 0), 0);
+    expect("highest number", ring_link(edge_form, sizeof edge_form, 2, 0, 0), UINT64_C(4294967295));
+    expect("neither", ring_link(edge_form, sizeof edge_form, 3, 0, 0), RING_NONE);
+    expect("number 0, billed", ring_link(billed_form, sizeof billed_form, 1, 0, 0), 0);
+    expect("highest number, billed", ring_link(billed_form, sizeof billed_form, 2, 0, 0), UINT64_C(4294967295));
+    expect("neither, billed", ring_link(billed_form, sizeof billed_form, 3, 0, 0), RING_NONE);
+
+    expect("no bytes", ring_link(NULL, 0, 1, 0, 0), RING_NONE + RING_CUT_SHORT);
+    expect("no bytes of some", ring_link(script_form, 0, 1, 0, 0), RING_NONE + RING_CUT_SHORT);
+    cuts("cut short", script_form, sizeof script_form);
+    cuts("cut short, billed", billed_form, sizeof billed_form);
     memcpy(longer, script_form, sizeof script_form);
     expect("trailing byte", ring_link(longer, sizeof longer, 1, 0, 0), RING_NONE + RING_TRAILING_BYTES);
 
@@ -144,9 +161,14 @@ static void forms(void)
     expect("65 nodes", damaged(script_form, sizeof script_form, 0, 65), RING_NONE + RING_NODE_COUNT);
     expect("65 ports", damaged(script_form, sizeof script_form, 1, 65), RING_NONE + RING_PORT_COUNT);
     expect("place 4 lit", damaged(script_form, sizeof script_form, 6, 0x1b), RING_NONE + RING_BAD_FIELD);
-    expect("field map bit 3", damaged(script_form, sizeof script_form, 22, 8), RING_NONE + RING_BAD_FIELD);
+    expect("field map bit 5", damaged(script_form, sizeof script_form, 22, 32), RING_NONE + RING_BAD_FIELD);
+    expect("field map bit 6", damaged(script_form, sizeof script_form, 22, 64), RING_NONE + RING_BAD_FIELD);
+    expect("field map bit 7", damaged(script_form, sizeof script_form, 22, 128), RING_NONE + RING_BAD_FIELD);
     expect("remark of a second that is not there", damaged(script_form, sizeof script_form, 22, 4), RING_NONE + RING_BAD_FIELD);
+    expect("account of a second that is not there", damaged(script_form, sizeof script_form, 22, 16), RING_NONE + RING_BAD_FIELD);
     expect("remark of 0", damaged(edge_form, sizeof edge_form, 28, 0), RING_NONE + RING_BAD_FIELD);
+    expect("first account of 0", damaged(billed_form, sizeof billed_form, 29, 0), RING_NONE + RING_BAD_FIELD);
+    expect("second account of 0", damaged(billed_form, sizeof billed_form, 42, 0), RING_NONE + RING_BAD_FIELD);
     expect("to itself", damaged(script_form, sizeof script_form, 28, 1), RING_NONE + RING_BROKEN_FORM);
     expect("off the ring", damaged(script_form, sizeof script_form, 28, 6), RING_NONE + RING_BROKEN_FORM);
     expect("a number twice", damaged(script_form, sizeof script_form, 26, 14), RING_NONE + RING_BROKEN_FORM);
@@ -163,12 +185,54 @@ static void many_ports(void)
     expect("192 ports", damaged(form, sizeof form, 4, 0), RING_NONE + RING_NO_LINK);
 }
 
+/* The bytes of a circuit with a remark and an account, both the highest that there are. */
+static uint8_t *put_circuit(uint8_t *at, int number, int source, int destination)
+{
+    const uint8_t bytes[] = { 0, 0, (uint8_t) (number / 256), (uint8_t) (number % 256), (uint8_t) source, (uint8_t) destination };
+
+    memcpy(at, bytes, sizeof bytes);
+    memset(at + sizeof bytes, 0xff, 6);
+    return at + sizeof bytes + 6;
+}
+
+/*
+ * The longest form: 64 nodes with three ports, 192 circuits. On each wavelength a circuit to the next node shares clockwise
+ * with its return, and one to the next node but one stands counterclockwise, alone.
+ */
+static void longest(void)
+{
+    static uint8_t form[RING_FORM_MOST + 1];
+    uint8_t *at = form;
+    int w;
+
+    *at++ = 64;
+    memset(at, 3, 64);
+    memset(at + 64, 0xff, 16);
+    at += 80;
+    for (w = 0; w < 64; w++) {
+        int next = (w + 1) % 64 + 1;
+
+        *at++ = 0x1f;
+        at = put_circuit(at, 3 * w, w + 1, next);
+        at = put_circuit(at, 3 * w + 1, next, w + 1);
+        *at++ = 0x09;
+        at = put_circuit(at, 3 * w + 2, w + 1, (w + 2) % 64 + 1);
+    }
+    expect("longest form, its length", (uint64_t) (at - form), RING_FORM_MOST);
+    expect("longest form, the last to the next node", ring_link(form, RING_FORM_MOST, 64, 63, 0), 189);
+    expect("longest form, its return", ring_link(form, RING_FORM_MOST, 63, 63, 0), 190);
+    expect("longest form, the last of all", ring_link(form, RING_FORM_MOST, 63, 63, 1), 191);
+    expect("longest form, one byte short", ring_link(form, RING_FORM_MOST - 1, 1, 0, 0), RING_NONE + RING_CUT_SHORT);
+    expect("longest form, one byte more", ring_link(form, RING_FORM_MOST + 1, 1, 0, 0), RING_NONE + RING_TRAILING_BYTES);
+}
+
 int main(void)
 {
     rings();
     numbers();
     forms();
     many_ports();
+    longest();
     if (wrong != 0) {
         printf("%d wrong\n", wrong);
         return 1;

@@ -2,7 +2,7 @@
 
 use std::fmt::Write;
 
-use crate::drawing::{class_of, ends, escaped, tenth, turn, Drawing, View, CHARACTER, FONT};
+use crate::drawing::{class_of, escaped, named, tenth, turn, Drawing, View, CHARACTER, FONT};
 use crate::table::{Circuit, Direction, Table};
 
 /// What a run keeps from the lines above and below it.
@@ -116,8 +116,8 @@ fn place_note(view: View, place: u8) -> String {
         .table
         .at(place)
         .map(|circuit| match view.note(circuit) {
-            note if note.is_empty() => ends(circuit),
-            note => format!("{} ({note})", ends(circuit)),
+            note if note.is_empty() => named(circuit),
+            note => format!("{} ({note})", named(circuit)),
         })
         .collect();
     if told.is_empty() {

@@ -111,11 +111,11 @@ mod tests {
             format!("circuits {circuits}{END}load {load}\n{END}write 20 03010101\n{END}")
         };
         let empty = ring("0\n", "0 0 0 0 0 0");
-        let lit = ring("1\ncircuit 9 from 1 to 2 remark 0 place 0\n", "1 0 0 0 0 0");
+        let lit = ring("1\ncircuit 9 from 1 to 2 remark 0 account 0 place 0\n", "1 0 0 0 0 0");
         let answers =
             format!("ring 3 wavelengths 1\n{END}{empty}open 9 place 0 moves 0 looks 0\n{END}{lit}");
         let mut plan = Ringplan::over(answers.as_bytes(), Vec::new());
-        let day = run(&mut plan, b"ring 3 1 1 1\nopen 9 1 2 0", None).unwrap();
+        let day = run(&mut plan, b"ring 3 1 1 1\nopen 9 1 2 0 0", None).unwrap();
         assert_eq!((day.lines, day.steps.len()), (2, 2));
         assert_eq!(day.steps[0].before, None);
         assert_eq!(day.steps[0].after, day.steps[1].before);
@@ -124,7 +124,7 @@ mod tests {
         let skipped =
             format!("ring 3 wavelengths 1\n{END}{empty}open 9 place 0 moves 0 looks 0\n{END}{lit}");
         let mut plan = Ringplan::over(skipped.as_bytes(), Vec::new());
-        let chosen = run(&mut plan, b"ring 3 1 1 1\nopen 9 1 2 0", Some((2, 2))).unwrap();
+        let chosen = run(&mut plan, b"ring 3 1 1 1\nopen 9 1 2 0 0", Some((2, 2))).unwrap();
         assert_eq!(chosen.steps[..], day.steps[1..]);
     }
 }

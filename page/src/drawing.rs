@@ -144,9 +144,13 @@ impl<'a> View<'a> {
     }
 }
 
-/// A circuit named with its ends: `101: 3\u{2192}5`.
-pub fn ends(circuit: &Circuit) -> String {
-    format!("{}: {}\u{2192}{}", circuit.number, circuit.source, circuit.destination)
+/// A circuit named with its ends and, if it has one, its account: `101: 3\u{2192}5, account 7`.
+pub fn named(circuit: &Circuit) -> String {
+    let account = match circuit.account {
+        0 => String::new(),
+        account => format!(", account {account}"),
+    };
+    format!("{}: {}\u{2192}{}{account}", circuit.number, circuit.source, circuit.destination)
 }
 
 #[cfg(test)]

@@ -4,12 +4,21 @@ use crate::step::Step;
 use crate::table::{Circuit, Table};
 use crate::words::{capital, count, listed, Telling};
 
+/// The words of an opening: `open` and its five numbers.
+const OPENING_WORDS: usize = 6;
+
 /// A line that is no request.
 pub fn tell_line(step: &Step) -> Telling {
+    let words = step.request.split_whitespace().count();
     let (reason, next) = match step.before {
         None => (
             "No ring is lit yet, so only a line that lights or reads one can be taken.",
             "Light a ring first, or correct the line.",
+        ),
+        Some(_) if step.words()[0] == "open" && words != OPENING_WORDS => (
+            "An opening has five numbers: the circuit's own, its source, its destination, its \
+             remark and its account. A remark or account of 0 is none.",
+            "Correct the line.",
         ),
         Some(_) => (
             "It may have a misspelt word, two spaces, a word too many or too few, a number too \

@@ -3,7 +3,7 @@
 use std::f64::consts::PI;
 use std::fmt::Write;
 
-use crate::drawing::{class_of, ends, escaped, tenth, Drawing, View};
+use crate::drawing::{class_of, escaped, named, tenth, Drawing, View};
 use crate::nodes;
 use crate::table::{Circuit, Direction, Table};
 use crate::words::count;
@@ -278,7 +278,7 @@ fn told(view: View, circuit: &Circuit) -> String {
     let note = view.note(circuit);
     let note = if note.is_empty() { note } else { format!(", {note}") };
     let way = circuit.direction().word();
-    format!("circuit {}, place {}, {way}{note}", ends(circuit), circuit.place)
+    format!("circuit {}, place {}, {way}{note}", named(circuit), circuit.place)
 }
 
 /// Numbers thin out: on a ring of many places only what is new or has moved is labelled.

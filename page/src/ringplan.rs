@@ -136,10 +136,10 @@ mod tests {
             "open 7 place 0 moves 1 looks 1\nmove 3 from 0 to 2\nread refused 30\n\
              close 7\nread refused 30\n",
         );
-        let opened = plan.ask(b"open 7 1 2 0").unwrap();
+        let opened = plan.ask(b"open 7 1 2 0 0").unwrap();
         assert_eq!(opened, ["open 7 place 0 moves 1 looks 1", "move 3 from 0 to 2"]);
         assert_eq!(plan.ask(b"close 7").unwrap(), ["close 7"]);
-        assert_eq!(plan.requests, b"open 7 1 2 0\nread -\nclose 7\nread -\n");
+        assert_eq!(plan.requests, b"open 7 1 2 0 0\nread -\nclose 7\nread -\n");
     }
 
     #[test]
@@ -170,7 +170,7 @@ mod tests {
     fn the_table_comes_from_three_answers() {
         let end = "read refused 30\n";
         let answers = format!(
-            "circuits 1\ncircuit 9 from 1 to 2 remark 0 place 0\n{end}\
+            "circuits 1\ncircuit 9 from 1 to 2 remark 0 account 0 place 0\n{end}\
              load 1 0 0 0 0 0\n{end}write 29 03010101{}\n{end}",
             "00".repeat(25)
         );

@@ -168,6 +168,7 @@ mod tests {
             source: number as u8,
             destination: number as u8 % 3 + 1,
             remark: 0,
+            account: 0,
             place,
         };
         let table =

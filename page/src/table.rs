@@ -39,6 +39,8 @@ pub struct Circuit {
     pub destination: u8,
     /// 0 for none.
     pub remark: u16,
+    /// 0 for none.
+    pub account: u32,
     pub place: u8,
 }
 
@@ -174,21 +176,22 @@ fn ports_of(form: &str) -> Option<Vec<u8>> {
     (total <= 192).then_some(ports)
 }
 
-/// A line `circuit NUMBER from SOURCE to DESTINATION remark REMARK place PLACE`.
+/// A line `circuit NUMBER from SOURCE to DESTINATION remark REMARK account ACCOUNT place PLACE`.
 fn circuit_of(line: &str) -> Option<Circuit> {
-    let words: Vec<&str> = line.split(' ').collect();
-    match words[..] {
-        ["circuit", number, "from", source, "to", destination, "remark", remark, "place", place] => {
-            Some(Circuit {
-                number: number.parse().ok()?,
-                source: source.parse().ok()?,
-                destination: destination.parse().ok()?,
-                remark: remark.parse().ok()?,
-                place: place.parse().ok()?,
-            })
-        }
-        _ => None,
-    }
+    let mut words = line.split(' ');
+    let mut after = |name: &str| {
+        words.next().filter(|&word| word == name)?;
+        words.next()
+    };
+    let circuit = Circuit {
+        number: after("circuit")?.parse().ok()?,
+        source: after("from")?.parse().ok()?,
+        destination: after("to")?.parse().ok()?,
+        remark: after("remark")?.parse().ok()?,
+        account: after("account")?.parse().ok()?,
+        place: after("place")?.parse().ok()?,
+    };
+    words.next().is_none().then_some(circuit)
 }
 
 #[cfg(test)]
@@ -196,7 +199,7 @@ mod tests {
     use super::*;
 
     fn circuit(source: u8, destination: u8, place: u8) -> Circuit {
-        Circuit { number: 7, source, destination, remark: 0, place }
+        Circuit { number: 7, source, destination, remark: 0, account: 0, place }
     }
 
     fn lines(text: &str) -> Vec<String> {
@@ -229,14 +232,15 @@ mod tests {
     #[test]
     fn answers_make_a_table() {
         let circuits = lines(
-            "circuits 2\ncircuit 1 from 1 to 2 remark 0 place 0\n\
-             circuit 4294967295 from 2 to 1 remark 65535 place 0",
+            "circuits 2\ncircuit 1 from 1 to 2 remark 0 account 0 place 0\n\
+             circuit 4294967295 from 2 to 1 remark 65535 account 4294967294 place 0",
         );
         let table = Table::from_answers("write 9 03020100ff", &circuits, "load 1 0 1 0 1 0");
         let table = table.unwrap();
         assert_eq!(table.ports, [2, 1, 0]);
         assert_eq!((table.wavelengths(), table.places()), (1, 2));
-        assert_eq!(table.circuits[1].number, 4294967295);
+        let Circuit { number, remark, account, .. } = table.circuits[1];
+        assert_eq!((number, remark, account), (4294967295, 65535, 4294967294));
         assert_eq!(table.partner(&table.circuits[0]), Some(&table.circuits[1]));
         assert_eq!(table.lowest_free_place(), Some(1));
         assert_eq!(table.sent_from(2), [&table.circuits[1]]);
@@ -249,7 +253,7 @@ mod tests {
         let made = |form: &str, circuits: &[String], load: &str| {
             Table::from_answers(form, circuits, load).is_some()
         };
-        let good = one("circuit 1 from 1 to 2 remark 0 place 0");
+        let good = one("circuit 1 from 1 to 2 remark 0 account 0 place 0");
         let (form, load) = ("write 9 03020100", "load 1 0 0 0 0 0");
         assert!(made(form, &good, load));
         assert!(!made("write 9 0302", &good, load));
@@ -259,9 +263,16 @@ mod tests {
         assert!(!made(form, &good, "load 1 0 0 0 0 x"));
         assert!(!made(form, &[], load));
         assert!(!made(form, &lines("circuits 1"), load));
-        for bad in ["from 4 to 2 remark 0 place 0", "from 1 to 1 remark 0 place 0", "place 0"] {
+        for bad in [
+            "from 4 to 2 remark 0 account 0 place 0",
+            "from 1 to 1 remark 0 account 0 place 0",
+            "from 1 to 2 remark 0 account 0 place 2",
+            "from 1 to 2 remark 0 account 4294967296 place 0",
+            "from 1 to 2 remark 0 account 0 place 0 place",
+            "from 1 to 2 remark 0 place 0",
+            "place 0",
+        ] {
             assert!(!made(form, &one(&format!("circuit 1 {bad}")), load), "{bad}");
         }
-        assert!(!made(form, &one("circuit 1 from 1 to 2 remark 0 place 2"), load));
     }
 }

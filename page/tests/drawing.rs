@@ -2,9 +2,11 @@
 
 mod common;
 
+use std::rc::Rc;
+
 use common::links::{answered, arcs, cells, Links};
 use common::rings::{
-    answers, largest, opening_107, still, table, Answers, Row, AFTER_107, FILLING_PORTS,
+    answers, largest, opening_107, still, table, Answers, Row, AFTER_107, FILLED, FILLING_PORTS,
 };
 use common::xml::parse;
 use ringpage::drawing::View;
@@ -128,6 +130,24 @@ fn new_moved_and_old_places_are_marked() {
     for text in ["107 new", "101 moved", "105 was here"] {
         assert!(ring.contains(&format!(">{text}</text>")), "{text}");
     }
+}
+
+#[test]
+fn an_account_is_named_with_its_circuit_before_and_after_a_move() {
+    let billed = |rows: &[Row]| {
+        let mut answers = answers(&FILLING_PORTS, rows);
+        let of_101 = answers.circuits.iter_mut().find(|line| line.starts_with("circuit 101 "));
+        let of_101 = of_101.expect("the line of 101");
+        *of_101 = of_101.replace("account 0", "account 4294967295");
+        Some(Rc::new(answers.table()))
+    };
+    let step = Step { before: billed(&FILLED), after: billed(&AFTER_107), ..opening_107() };
+    let before = chart::draw(View::before(&step).expect("a ring")).sized();
+    let (ring, after) = drawn(&step);
+    assert!(before.contains(">101: 3\u{2192}5, account 4294967295 (moves to 1)</text>"));
+    assert!(after.contains(">101: 3\u{2192}5, account 4294967295 (moved from 0) + 105: 4\u{2192}3"));
+    assert!(ring.contains("<title>circuit 101: 3\u{2192}5, account 4294967295, place 1, "));
+    assert!(!after.contains("account 0"));
 }
 
 #[test]

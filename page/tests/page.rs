@@ -113,9 +113,17 @@ fn pictures_stand_by_themselves() {
 }
 
 #[test]
+fn an_account_is_shown_from_the_opening_on() {
+    let day = run(b"ring 3 1 1 1\nopen 7 1 2 0 12\nopen 8 2 1 0 0\n", None);
+    let text = page::page("accounts", &day);
+    assert!(text.contains(">7: 1\u{2192}2, account 12 (new)</text>"));
+    assert!(text.contains(">7: 1\u{2192}2, account 12 + 8: 2\u{2192}1 (new)</text>"));
+}
+
+#[test]
 fn a_long_script_shows_its_last_200_steps_or_those_chosen() {
     let mut script = b"ring 3 1 1 1\n".to_vec();
-    script.extend(b"open 7 1 2 0\nclose 7\n".repeat(150));
+    script.extend(b"open 7 1 2 0 0\nclose 7\n".repeat(150));
     let day = run(&script, None);
     assert_eq!((day.lines, day.steps.len(), day.steps[0].number), (301, 200, 102));
     assert!(day.steps[0].before.is_some());

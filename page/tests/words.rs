@@ -57,7 +57,7 @@ fn why_107_needed_three_moves() {
 #[test]
 fn a_pair_with_the_new_circuit() {
     let told = on_filling(
-        "open 108 5 3 0",
+        "open 108 5 3 0 0",
         "open 108 place 3 moves 2 looks 5\nmove 104 from 3 to 0\nmove 102 from 0 to 3",
         &AFTER_107,
         &after_108(),
@@ -85,7 +85,7 @@ fn a_pair_with_the_new_circuit() {
 fn a_pair_that_stands_the_right_way_already() {
     let before = after_108();
     let told = on_filling(
-        "open 109 5 6 0",
+        "open 109 5 6 0 0",
         "open 109 place 4 moves 1 looks 2\nmove 107 from 4 to 0",
         &before,
         &with(&before, &[(107, 3, 1, 0), (109, 5, 6, 4)]),
@@ -113,7 +113,7 @@ fn on_six(request: &str, answer: &str, before: &[Row], after: &[Row]) -> Telling
 fn a_pair_there_and_back_can_share_either_way() {
     let before = [(3, 1, 4, 0), (4, 4, 5, 0), (1, 2, 3, 1), (2, 3, 2, 2), (5, 5, 6, 3)];
     let told = on_six(
-        "open 6 6 1 0",
+        "open 6 6 1 0 0",
         "open 6 place 2 moves 1 looks 1\nmove 2 from 2 to 1",
         &before,
         &with(&before, &[(2, 3, 2, 1), (6, 6, 1, 2)]),
@@ -140,7 +140,7 @@ fn a_pair_there_and_back_can_share_either_way() {
 fn a_pair_there_and_back_that_stood_one_way() {
     let before = [(3, 4, 6, 0), (4, 6, 1, 0), (2, 3, 2, 1), (5, 1, 5, 2), (1, 2, 3, 3)];
     let told = on_six(
-        "open 6 5 4 0",
+        "open 6 5 4 0 0",
         "open 6 place 3 moves 1 looks 2\nmove 1 from 3 to 1",
         &before,
         &with(&before, &[(1, 2, 3, 1), (6, 5, 4, 3)]),
@@ -163,11 +163,11 @@ fn a_circuit_that_joins_names_where_the_two_meet() {
         on_filling(request, &answer, &alone, &with(&alone, &[row])).point
     };
     assert_eq!(
-        joins("open 110 4 3 0", (110, 4, 3, 1)),
+        joins("open 110 4 3 0 0", (110, 4, 3, 1)),
         "Circuit 110 joined circuit 101 at place 1: 110 ends at node 3, where 101 begins."
     );
     assert_eq!(
-        joins("open 111 5 4 0", (111, 5, 4, 1)),
+        joins("open 111 5 4 0 0", (111, 5, 4, 1)),
         "Circuit 111 joined circuit 101 at place 1: 101 ends at node 5, where 111 begins."
     );
 }
@@ -176,7 +176,7 @@ fn a_circuit_that_joins_names_where_the_two_meet() {
 fn a_circuit_joins_its_return_either_way() {
     let back = |place: u8| {
         on_filling(
-            "open 112 2 1 0",
+            "open 112 2 1 0 0",
             &format!("open 112 place {place} moves 0 looks 0"),
             &[(104, 1, 2, place)],
             &[(104, 1, 2, place), (112, 2, 1, place)],
@@ -202,11 +202,11 @@ fn a_circuit_joins_its_return_either_way() {
 #[test]
 fn a_circuit_that_stays_alone() {
     let first = (101, 3, 5, 0);
-    let told = on_filling("open 101 3 5 0", "open 101 place 0 moves 0 looks 0", &[], &[first]);
+    let told = on_filling("open 101 3 5 0 0", "open 101 place 0 moves 0 looks 0", &[], &[first]);
     assert_eq!(told.point, "Circuit 101 took the lowest free place, place 0, clockwise.");
     assert_eq!(told.reasons[0], "The ring was empty.");
     let rows = [first, (102, 6, 5, 1)];
-    let told = on_filling("open 102 6 5 0", "open 102 place 1 moves 0 looks 0", &[first], &rows);
+    let told = on_filling("open 102 6 5 0 0", "open 102 place 1 moves 0 looks 0", &[first], &rows);
     assert_eq!(told.point, "Circuit 102 took the lowest free place, place 1, counterclockwise.");
     assert_eq!(told.reasons[0], "No circuit that stood alone could share its place with 102.");
 }
@@ -254,22 +254,26 @@ fn refusals_say_who_is_in_the_way() {
         ("ring 2 1 1", "ring refused 1", "this line has 2 nodes and 2 port counts."),
         ("ring 3 1 65 1", "ring refused 2", "Node 2 has 65 ports; 64 is the most."),
         ("ring 4 64 64 64 1", "ring refused 3", "All 193 ports together are above 192."),
-        ("open 9 1 7 0", "open 9 refused 10", "Node 7 is not on the ring, which has nodes 1 to 6."),
-        ("open 9 0 7 0", "open 9 refused 10", "Nodes 0 and 7 are not on the ring,"),
-        ("open 9 2 2 0", "open 9 refused 11", "begin and end at the same node, 2."),
-        ("open 101 5 6 0", "open 101 refused 12", "is running already, from node 3 to node 5."),
         (
-            "open 9 2 4 0",
+            "open 9 1 7 0 0",
+            "open 9 refused 10",
+            "Node 7 is not on the ring, which has nodes 1 to 6.",
+        ),
+        ("open 9 0 7 0 0", "open 9 refused 10", "Nodes 0 and 7 are not on the ring,"),
+        ("open 9 2 2 0 0", "open 9 refused 11", "begin and end at the same node, 2."),
+        ("open 101 5 6 0 0", "open 101 refused 12", "is running already, from node 3 to node 5."),
+        (
+            "open 9 2 4 0 0",
             "open 9 refused 13",
             "Node 2 has one transmitter, and circuit 106 uses it.",
         ),
         (
-            "open 9 1 3 0",
+            "open 9 1 3 0 0",
             "open 9 refused 13",
             "Both transmitters at node 1 are in use, by circuits 103 and 104.",
         ),
         (
-            "open 9 5 2 0",
+            "open 9 5 2 0 0",
             "open 9 refused 14",
             "The far end is busy: node 2 has one receiver, and circuit 104 uses it.",
         ),
@@ -288,7 +292,7 @@ fn refusals_say_who_is_in_the_way() {
 
 #[test]
 fn a_busy_far_end_is_never_a_full_ring() {
-    let (point, next) = refused("open 9 5 2 0", "open 9 refused 14");
+    let (point, next) = refused("open 9 5 2 0 0", "open 9 refused 14");
     assert_eq!(
         point,
         "The far end is busy: node 2 has one receiver, and circuit 104 uses it. This is not a full \
@@ -301,9 +305,9 @@ fn a_busy_far_end_is_never_a_full_ring() {
 fn a_node_without_ports() {
     let ring = || Some(table(&[1, 1, 0], &[]));
     let told = |request, answer| tell(&step(request, answer, ring(), ring())).point;
-    let from = told("open 9 3 1 0", "open 9 refused 13");
+    let from = told("open 9 3 1 0 0", "open 9 refused 13");
     assert!(from.starts_with("Node 3 has no transmitter at all. This is not a full ring:"));
-    let to = told("open 9 1 3 0", "open 9 refused 14");
+    let to = told("open 9 1 3 0 0", "open 9 refused 14");
     assert!(to.starts_with("Node 3 has no receiver at all. This is not a full ring:"));
 }
 
@@ -315,6 +319,12 @@ fn refused_lines() {
     };
     assert!(told(None).reasons[0].starts_with("No ring is lit yet"));
     assert!(told(Some(table(&[1, 1, 1], &[]))).reasons[0].contains("misspelt"));
+    let opening = |line| {
+        let ring = || Some(table(&[1, 1, 1], &[]));
+        tell(&step(line, "line refused", ring(), ring())).reasons[0].contains("five numbers")
+    };
+    assert!(opening("open 1 2 3 0") && opening("open 1 2 3 0 0 0"));
+    assert!(!opening("open 1 2 3 0 x") && !opening("open 1 2  3 0 0"));
 }
 
 #[test]

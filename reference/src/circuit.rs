@@ -9,6 +9,8 @@ pub struct Circuit {
     pub destination: u8,
     /// 0 for none.
     pub remark: u16,
+    /// 0 for none.
+    pub account: u32,
 }
 
 impl Circuit {

@@ -155,7 +155,7 @@ fn read_output(child: &mut Child, most: usize) -> io::Result<Vec<u8>> {
 mod tests {
     use super::*;
 
-    const SCRIPT: &[u8] = b"ring 3 1 1 1\nopen 1 1 2 0\nclose 2\n";
+    const SCRIPT: &[u8] = b"ring 3 1 1 1\nopen 1 1 2 0 0\nclose 2\n";
 
     fn difference(program: &str) -> Option<Difference> {
         Expected::of(Program::Script, SCRIPT).first_difference(program.as_bytes())
@@ -171,7 +171,7 @@ mod tests {
     fn a_changed_answer_is_shown_with_its_line() {
         let changed = "ring 3 wavelengths 1\nopen 1 place 0 moves 0 looks 1\nclose refused 15\n";
         let found = difference(changed).unwrap();
-        assert_eq!((found.line_number, &found.line[..]), (2, &b"open 1 1 2 0"[..]));
+        assert_eq!((found.line_number, &found.line[..]), (2, &b"open 1 1 2 0 0"[..]));
         assert_eq!(found.reference, b"open 1 place 0 moves 0 looks 0\n");
         assert_eq!(found.program, b"open 1 place 0 moves 0 looks 1\n");
     }
@@ -188,9 +188,9 @@ mod tests {
 
     #[test]
     fn an_answer_of_several_lines_is_shown_whole() {
-        let script = b"ring 3 1 1 1\nopen 7 1 2 0\ncircuits\nload\n";
+        let script = b"ring 3 1 1 1\nopen 7 1 2 0 9\ncircuits\nload\n";
         let expected = Expected::of(Program::Plan, script);
-        let list = "circuits 1\ncircuit 7 from 1 to 2 remark 0 place 0\n";
+        let list = "circuits 1\ncircuit 7 from 1 to 2 remark 0 account 9 place 0\n";
         let output = String::from_utf8(expected.output.clone()).unwrap();
         let changed = output.replace("place 0\nload", "place 1\nload");
         let found = expected.first_difference(changed.as_bytes()).unwrap();

@@ -2,16 +2,32 @@
 
 use crate::circuit::Circuit;
 use crate::refusal::Refusal;
-use crate::table::{Channel, Rule, Table, NODES_LEAST, NODES_MOST, PLACES};
-
-pub const FORM_MOST: usize = 1745;
+use crate::table::{Channel, Rule, Table, NODES_LEAST, NODES_MOST, PLACES, RING_PORTS_MOST};
 
 const MAP_BYTES: usize = PLACES / 8;
 
+/// The bytes of a circuit's number, source and destination, of its remark and of its account.
+pub(crate) const CIRCUIT_BYTES: usize = 6;
+pub(crate) const REMARK_BYTES: usize = 2;
+pub(crate) const ACCOUNT_BYTES: usize = 4;
+
+/// The longest form: the most nodes, every place lit, and a circuit with a remark and an account
+/// from each port.
+pub const FORM_MOST: usize = 1
+    + NODES_MOST as usize
+    + MAP_BYTES
+    + PLACES
+    + RING_PORTS_MOST as usize * (CIRCUIT_BYTES + REMARK_BYTES + ACCOUNT_BYTES);
+
 /// The bits of a record's field map.
-pub(crate) const FIRST_REMARK: u8 = 1;
-pub(crate) const SECOND_PRESENT: u8 = 2;
-pub(crate) const SECOND_REMARK: u8 = 4;
+pub(crate) const FIRST_REMARK: u8 = 1 << 0;
+pub(crate) const SECOND_PRESENT: u8 = 1 << 1;
+pub(crate) const SECOND_REMARK: u8 = 1 << 2;
+pub(crate) const FIRST_ACCOUNT: u8 = 1 << 3;
+pub(crate) const SECOND_ACCOUNT: u8 = 1 << 4;
+
+const KNOWN_BITS: u8 =
+    FIRST_REMARK | SECOND_PRESENT | SECOND_REMARK | FIRST_ACCOUNT | SECOND_ACCOUNT;
 
 /// Writes the form to the front of the buffer and answers with its length.
 pub fn write(table: &Table, buffer: &mut [u8]) -> Result<usize, Refusal> {
@@ -30,7 +46,10 @@ pub(crate) fn form_of(table: &Table) -> Vec<u8> {
     form.extend(&table.ports[..usize::from(table.nodes)]);
     form.extend(map_of(table));
     for channel in &table.channels {
-        write_record(*channel, &mut form);
+        if let Some(field_map) = field_map(*channel) {
+            form.push(field_map);
+            channel.circuits().for_each(|circuit| write_circuit(circuit, &mut form));
+        }
     }
     form
 }
@@ -46,20 +65,18 @@ fn map_of(table: &Table) -> [u8; MAP_BYTES] {
     map
 }
 
-fn write_record(channel: Channel, form: &mut Vec<u8>) {
+/// The field map of the place's record, if it has one.
+pub(crate) fn field_map(channel: Channel) -> Option<u8> {
+    let of_first = |circuit: Circuit| {
+        bit_if(circuit.remark != 0, FIRST_REMARK) | bit_if(circuit.account != 0, FIRST_ACCOUNT)
+    };
+    let of_second = |circuit: Circuit| {
+        bit_if(circuit.remark != 0, SECOND_REMARK) | bit_if(circuit.account != 0, SECOND_ACCOUNT)
+    };
     match channel {
-        Channel::Unlit => {}
-        Channel::One(circuit) => {
-            form.push(bit_if(circuit.remark != 0, FIRST_REMARK));
-            write_circuit(circuit, form);
-        }
-        Channel::Two(first, second) => {
-            let first_remark = bit_if(first.remark != 0, FIRST_REMARK);
-            let second_remark = bit_if(second.remark != 0, SECOND_REMARK);
-            form.push(first_remark | SECOND_PRESENT | second_remark);
-            write_circuit(first, form);
-            write_circuit(second, form);
-        }
+        Channel::Unlit => None,
+        Channel::One(circuit) => Some(of_first(circuit)),
+        Channel::Two(first, second) => Some(of_first(first) | SECOND_PRESENT | of_second(second)),
     }
 }
 
@@ -78,6 +95,9 @@ fn write_circuit(circuit: Circuit, form: &mut Vec<u8>) {
     if circuit.remark != 0 {
         form.extend(circuit.remark.to_be_bytes());
     }
+    if circuit.account != 0 {
+        form.extend(circuit.account.to_be_bytes());
+    }
 }
 
 /// What is wrong with a form, in more detail than the refusal says.
@@ -86,14 +106,20 @@ pub enum Fault {
     /// A fault of the ring itself.
     Ring(Refusal),
     Cut,
+    /// An account ends early, or is missing at the end of the form.
+    AccountCut,
     /// The map has a bit at 2 × W or above.
     HighPlace,
-    /// The field map has one of the bits 3 to 7.
+    /// The field map has one of the bits 5 to 7.
     UnknownField,
     /// The field map has bit 2 without bit 1.
     RemarkOfNone,
+    /// The field map has bit 4 without bit 1.
+    AccountOfNone,
     /// A remark of 0 is written.
     RemarkOfZero,
+    /// An account of 0 is written.
+    AccountOfZero,
     Tail,
     Rule(Rule),
 }
@@ -102,10 +128,13 @@ impl Fault {
     pub fn refusal(self) -> Refusal {
         match self {
             Fault::Ring(refusal) => refusal,
-            Fault::Cut => Refusal::FormCut,
-            Fault::HighPlace | Fault::UnknownField | Fault::RemarkOfNone | Fault::RemarkOfZero => {
-                Refusal::FormField
-            }
+            Fault::Cut | Fault::AccountCut => Refusal::FormCut,
+            Fault::HighPlace
+            | Fault::UnknownField
+            | Fault::RemarkOfNone
+            | Fault::AccountOfNone
+            | Fault::RemarkOfZero
+            | Fault::AccountOfZero => Refusal::FormField,
             Fault::Tail => Refusal::FormTail,
             Fault::Rule(_) => Refusal::FormRules,
         }
@@ -172,34 +201,45 @@ impl<'a> Fields<'a> {
 
     fn record(&mut self) -> Result<Channel, Fault> {
         let field_map = self.byte()?;
-        let known = FIRST_REMARK | SECOND_PRESENT | SECOND_REMARK;
         let has = |bit| field_map & bit != 0;
-        if has(!known) {
+        if has(!KNOWN_BITS) {
             return Err(Fault::UnknownField);
         }
         if has(SECOND_REMARK) && !has(SECOND_PRESENT) {
             return Err(Fault::RemarkOfNone);
         }
-        let first = self.circuit(has(FIRST_REMARK))?;
+        if has(SECOND_ACCOUNT) && !has(SECOND_PRESENT) {
+            return Err(Fault::AccountOfNone);
+        }
+        let first = self.circuit(has(FIRST_REMARK), has(FIRST_ACCOUNT))?;
         if !has(SECOND_PRESENT) {
             return Ok(Channel::One(first));
         }
-        let second = self.circuit(has(SECOND_REMARK))?;
+        let second = self.circuit(has(SECOND_REMARK), has(SECOND_ACCOUNT))?;
         Ok(Channel::Two(first, second))
     }
 
-    fn circuit(&mut self, has_remark: bool) -> Result<Circuit, Fault> {
+    fn circuit(&mut self, has_remark: bool, has_account: bool) -> Result<Circuit, Fault> {
         let number = u32::from_be_bytes(self.array()?);
         let source = self.byte()?;
         let destination = self.byte()?;
         let remark = if has_remark { self.remark()? } else { 0 };
-        Ok(Circuit { number, source, destination, remark })
+        let account = if has_account { self.account()? } else { 0 };
+        Ok(Circuit { number, source, destination, remark, account })
     }
 
     fn remark(&mut self) -> Result<u16, Fault> {
         match u16::from_be_bytes(self.array()?) {
             0 => Err(Fault::RemarkOfZero),
             remark => Ok(remark),
+        }
+    }
+
+    fn account(&mut self) -> Result<u32, Fault> {
+        let field = self.array().map_err(|_| Fault::AccountCut)?;
+        match u32::from_be_bytes(field) {
+            0 => Err(Fault::AccountOfZero),
+            account => Ok(account),
         }
     }
 }

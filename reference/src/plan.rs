@@ -240,9 +240,9 @@ impl Answer {
 }
 
 fn write_lightpath(lightpath: &Lightpath, out: &mut impl Write) -> io::Result<()> {
-    let Circuit { number, source, destination, remark } = lightpath.circuit;
-    let place = lightpath.place.0;
-    writeln!(out, "circuit {number} from {source} to {destination} remark {remark} place {place}")
+    let Circuit { number, source, destination, remark, account } = lightpath.circuit;
+    write!(out, "circuit {number} from {source} to {destination} ")?;
+    writeln!(out, "remark {remark} account {account} place {}", lightpath.place.0)
 }
 
 /// The bytes as pairs of digits, as a line gives a saved form.

@@ -28,7 +28,7 @@ pub enum Refusal {
     BrokenTable = 22,
     /// A field of the form ends early.
     FormCut = 30,
-    /// A bit of the form stands where none may, or a written remark is 0.
+    /// A bit of the form stands where none may, or a written remark or account is 0.
     FormField = 31,
     /// Bytes follow the form's last record.
     FormTail = 32,

@@ -140,12 +140,13 @@ pub fn parse(line: &[u8]) -> Option<Request> {
             ports: words.by_ref().map(byte).collect::<Option<Vec<u8>>>()?,
         },
         b"open" => Request::Open(Circuit {
-            number: circuit_number(words.next()?)?,
+            number: four_bytes(words.next()?)?,
             source: byte(words.next()?)?,
             destination: byte(words.next()?)?,
-            remark: number(words.next()?, u64::from(u16::MAX))? as u16,
+            remark: two_bytes(words.next()?)?,
+            account: four_bytes(words.next()?)?,
         }),
-        b"close" => Request::Close(circuit_number(words.next()?)?),
+        b"close" => Request::Close(four_bytes(words.next()?)?),
         _ => return None,
     };
     match words.next() {
@@ -158,7 +159,11 @@ fn byte(word: &[u8]) -> Option<u8> {
     number(word, u64::from(u8::MAX)).map(|value| value as u8)
 }
 
-fn circuit_number(word: &[u8]) -> Option<u32> {
+fn two_bytes(word: &[u8]) -> Option<u16> {
+    number(word, u64::from(u16::MAX)).map(|value| value as u16)
+}
+
+fn four_bytes(word: &[u8]) -> Option<u32> {
     number(word, u64::from(u32::MAX)).map(|value| value as u32)
 }
 

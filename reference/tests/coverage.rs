@@ -1,28 +1,32 @@
-//! What openings count as: the steps, and circuits with their returns.
+//! What lines count as: the steps, circuits with their returns, accounts.
 
 mod common;
 
 use common::{
-    circuit, ring_of_01, ring_where_first_fits, ring_where_second_fits, ring_with_return, standing,
+    circuit, ring, ring_of_01, ring_where_first_fits, ring_where_second_fits, ring_with_return,
+    standing,
 };
 use ring::circuit::Circuit;
 use ring::coverage::{Coverage, Event, SCRIPT_EVENTS};
-use ring::form::{write, FORM_MOST};
+use ring::form::{write, Fault, FORM_MOST};
 use ring::place::Direction::{Clockwise, Counterclockwise};
 use ring::place::Place;
 use ring::plan::{hexadecimal, Planner};
 use ring::program::Program;
-use ring::table::Table;
+use ring::table::{Channel, Table};
 
 /// The planner reads the table and opens the circuit; both count.
 fn coverage(table: &Table, new: Circuit) -> Coverage {
     let mut form = [0; FORM_MOST];
     let length = write(table, &mut form).unwrap();
-    let Circuit { number, source, destination, remark } = new;
-    let lines = [
-        format!("read {}", hexadecimal(&form[..length])),
-        format!("open {number} {source} {destination} {remark}"),
-    ];
+    let Circuit { number, source, destination, remark, account } = new;
+    coverage_of(&[
+        &format!("read {}", hexadecimal(&form[..length])),
+        &format!("open {number} {source} {destination} {remark} {account}"),
+    ])
+}
+
+fn coverage_of(lines: &[&str]) -> Coverage {
     let mut coverage = Coverage::of(Program::Plan);
     let mut planner = Planner::new();
     for line in lines {
@@ -97,6 +101,90 @@ fn step_3b_by_its_moves() {
     let table = standing(&[2, 1, 2, 1, 2, 1], &circuits);
     let expected = [Event::Step3bWithNew, Event::Step3bOverShared];
     assert_eq!(events(&table, circuit(108, 5, 3)), expected);
+}
+
+#[test]
+fn openings_with_an_account_and_moves_of_circuits_that_have_one() {
+    let with_account = |account, circuit| Circuit { account, ..circuit };
+    let (table, new) = (ring(&[1; 5]), circuit(1, 1, 2));
+    let expected = [Event::Step2, Event::OpenedWithAccount];
+    assert_eq!(events(&table, with_account(1, new)), expected);
+    let expected = [Event::Step2, Event::OpenedWithAccount, Event::OpenedWithWidestAccount];
+    assert_eq!(events(&table, with_account(u32::MAX, new)), expected);
+    // 11, 12 and 13 are moved, and 14 is not.
+    for (place, moves) in [(0, true), (1, true), (2, true), (3, false)] {
+        let mut table = ring_of_01();
+        let Channel::One(old) = table.channels[place] else { panic!("one circuit at a place") };
+        table.channels[place] = Channel::One(with_account(7, old));
+        let moved = Event::MovedWithAccount { moves: 3 };
+        let mut expected = vec![Event::Step3bOld];
+        expected.extend(moves.then_some(moved));
+        assert_eq!(events(&table, circuit(15, 5, 4)), expected);
+    }
+}
+
+#[test]
+fn openings_refused_for_their_account() {
+    let refused = |line: &str| {
+        let coverage = coverage_of(&["ring 5 1 1 1 1 1", line]);
+        let sorts = [
+            Event::RefusedNoAccount,
+            Event::RefusedWideAccount,
+            Event::RefusedOddAccount,
+            Event::RefusedAfterAccount,
+        ];
+        sorts.into_iter().find(|&event| coverage.count(event) == 1)
+    };
+    assert_eq!(refused("open 7 1 2 0"), Some(Event::RefusedNoAccount));
+    assert_eq!(refused("open 7 1 2 0 4294967296"), Some(Event::RefusedWideAccount));
+    assert_eq!(refused("open 7 1 2 0 -1"), Some(Event::RefusedOddAccount));
+    assert_eq!(refused("open 7 1 2 0 0 0"), Some(Event::RefusedAfterAccount));
+    for line in ["open 7 1 2 0 0", "open 7 1 2", "open 7 1 256 0 0", "open 7 1 2 0 ", "opens 7"] {
+        assert_eq!(refused(line), None, "{line}");
+    }
+}
+
+#[test]
+fn forms_by_their_field_maps_and_accounts() {
+    let [billed, plain] = [9, 0].map(|account| Circuit { account, ..circuit(1, 1, 2) });
+    let reads = |circuits: &[(u8, Circuit)], event: Event| {
+        coverage(&standing(&[1; 5], circuits), circuit(3, 4, 5)).count(event)
+    };
+    let alone = [(0, billed)];
+    assert_eq!(reads(&alone, Event::ReadFieldMap(0b01000)), 1);
+    assert_eq!(reads(&alone, Event::ReadFieldMap(0b00000)), 0);
+    assert_eq!(reads(&alone, Event::ReadWithAccount), 1);
+    let pair = [(0, plain), (0, Circuit { number: 2, source: 2, destination: 3, ..billed })];
+    assert_eq!(reads(&pair, Event::ReadFieldMap(0b10010)), 1);
+    let apart = [(0, plain), (2, Circuit { number: 2, source: 2, destination: 3, ..plain })];
+    assert_eq!(reads(&apart, Event::ReadFieldMap(0b00000)), 1, "forms are counted, not records");
+    assert_eq!(reads(&apart, Event::ReadWithoutAccount), 1);
+    assert_eq!(reads(&[], Event::ReadWithoutAccount), 0);
+}
+
+#[test]
+fn forms_refused_for_an_account() {
+    let ring_with_one = format!("read 05010101010101{}", "00".repeat(15));
+    let fault = |record: &str| {
+        let coverage = coverage_of(&[&format!("{ring_with_one}{record}")]);
+        let is_seen = |&fault: &Fault| coverage.count(Event::ReadFault(fault)) == 1;
+        let faults = [
+            Fault::Cut,
+            Fault::AccountCut,
+            Fault::UnknownField,
+            Fault::AccountOfNone,
+            Fault::AccountOfZero,
+        ];
+        faults.into_iter().find(is_seen)
+    };
+    assert_eq!(fault("080000000b010"), None, "an odd number of digits");
+    assert_eq!(fault("080000000b01"), Some(Fault::Cut));
+    assert_eq!(fault("080000000b0105"), Some(Fault::AccountCut));
+    assert_eq!(fault("080000000b0105000000"), Some(Fault::AccountCut));
+    assert_eq!(fault("080000000b010500000000"), Some(Fault::AccountOfZero));
+    assert_eq!(fault("080000000b010500000001"), None);
+    assert_eq!(fault("10"), Some(Fault::AccountOfNone));
+    assert_eq!(fault("20"), Some(Fault::UnknownField));
 }
 
 #[test]

@@ -7,7 +7,7 @@ use ring::circuit::Circuit;
 use ring::form::{read, write, FORM_MOST};
 use ring::generator::Kind;
 use ring::refusal::Refusal;
-use ring::table::{Channel, Table};
+use ring::table::Table;
 
 fn form_of(table: &Table) -> Vec<u8> {
     let mut buffer = vec![0xEE; FORM_MOST + 7];
@@ -46,22 +46,33 @@ fn two_at_a_place_with_remarks() {
     assert_eq!(form_of(&table)[4 + 16..], record);
 }
 
-#[test]
-fn the_longest_form() {
-    let mut table = ring(&[3; 64]);
-    let mut number = 0;
-    for node in 1..=64u8 {
-        for _ in 0..3 {
-            let next = node % 64 + 1;
-            open(&mut table, Circuit { remark: 1, ..circuit(number, node, next) }).unwrap();
-            number += 1;
-        }
+/// Every port of 64 nodes in use by a circuit to the next node, each with a remark and an account:
+/// two at each clockwise place and one at each counterclockwise one.
+fn largest() -> Table {
+    let next = |node: u8| node % 64 + 1;
+    let from = |node: u8, number: u32| Circuit {
+        remark: u16::MAX,
+        account: u32::MAX,
+        ..circuit(number, node, next(node))
+    };
+    let mut circuits = Vec::new();
+    for node in 1..=64 {
+        let (place, number) = (2 * (node - 1), 3 * u32::from(node));
+        circuits.push((place, from(node, number)));
+        circuits.push((place, from(next(node), number + 1)));
+        circuits.push((place + 1, from(node, number + 2)));
     }
-    let shared =
-        table.channels.iter().filter(|channel| matches!(channel, Channel::Two(..))).count();
-    let alone = table.channels.iter().filter(|channel| matches!(channel, Channel::One(_))).count();
-    assert_eq!(form_of(&table).len(), 1 + 64 + 16 + 17 * shared + 9 * alone);
-    assert_eq!(FORM_MOST, 1 + 64 + 16 + 128 + 192 * 8);
+    standing(&[3; 64], &circuits)
+}
+
+#[test]
+fn the_longest_form_is_2513_bytes() {
+    let form = form_of(&largest());
+    assert_eq!((form.len(), FORM_MOST), (2513, 2513));
+    assert_eq!(read(&form), Ok(largest()));
+    assert_eq!(write(&largest(), &mut [0; 2512]), Err(Refusal::ShortBuffer));
+    assert_eq!(read(&form[..2512]), Err(Refusal::FormCut));
+    assert_eq!(read(&[&form[..], &[0]].concat()), Err(Refusal::FormTail));
 }
 
 #[test]
@@ -117,11 +128,63 @@ fn faults_of_the_fields_in_a_form() {
     assert_eq!(changed(|form| form[MAP] |= 1 << 4), Err(Refusal::FormField));
     assert_eq!(changed(|form| form[MAP + 15] = 128), Err(Refusal::FormField));
     assert_eq!(read(&[&[3, 1, 1, 1][..], &[255; 15]].concat()), Err(Refusal::FormCut));
-    for bit in 3..8 {
-        assert_eq!(changed(|form| form[RECORD] = 1 << bit), Err(Refusal::FormField));
+}
+
+fn has(bits: u8, bit: u8) -> bool {
+    bits >> bit & 1 == 1
+}
+
+/// Whether a record may have this field map: no bit from 5 up, and neither 2 nor 4 without 1.
+fn is_field_map(bits: u8) -> bool {
+    bits >> 5 == 0 && (has(bits, 1) || !has(bits, 2) && !has(bits, 4))
+}
+
+/// The record of 11, and of 12 where bit 1 stands, with the other fields that the map names.
+fn record_with(bits: u8) -> Vec<u8> {
+    let mut record = vec![bits, 0, 0, 0, 11, 1, 5];
+    let fields: [(u8, &[u8]); 5] = [
+        (0, &[1, 2]),
+        (3, &[3, 4, 5, 6]),
+        (1, &[0, 0, 0, 12, 5, 1]),
+        (2, &[0, 7]),
+        (4, &[0, 8, 0, 0]),
+    ];
+    for (bit, field) in fields {
+        if has(bits, bit) {
+            record.extend(field);
+        }
     }
-    assert_eq!(changed(|form| form[RECORD] = 4), Err(Refusal::FormField));
-    assert_eq!(changed(|form| form[RECORD] = 5), Err(Refusal::FormField));
+    record
+}
+
+/// The ring of five nodes with the circuits of that record.
+fn table_with(bits: u8) -> Table {
+    let remark = |bit, remark: u16| if has(bits, bit) { remark } else { 0 };
+    let account = |bit, account: u32| if has(bits, bit) { account } else { 0 };
+    let first =
+        Circuit { remark: remark(0, 0x0102), account: account(3, 0x03040506), ..circuit(11, 1, 5) };
+    let second =
+        Circuit { remark: remark(2, 7), account: account(4, 0x00080000), ..circuit(12, 5, 1) };
+    let circuits = [(0, first), (0, second)];
+    standing(&[1; 5], &circuits[..1 + usize::from(has(bits, 1))])
+}
+
+#[test]
+fn every_field_map_is_read_and_written_back() {
+    let field_maps: Vec<u8> = (0..=255).filter(|&bits| is_field_map(bits)).collect();
+    assert_eq!(field_maps.len(), 20);
+    for bits in field_maps {
+        let form = form_of_five(1, &[&record_with(bits)]);
+        assert_eq!(read(&form), Ok(table_with(bits)), "{bits:05b}");
+        assert_eq!(form_of(&table_with(bits)), form, "{bits:05b}");
+    }
+}
+
+#[test]
+fn any_other_field_map_is_named_as_soon_as_it_is_there() {
+    for bits in (0..=255).filter(|&bits| !is_field_map(bits)) {
+        assert_eq!(read(&form_of_five(1, &[&[bits]])), Err(Refusal::FormField), "{bits:08b}");
+    }
 }
 
 #[test]
@@ -136,6 +199,40 @@ fn a_written_remark_of_0_is_named_as_soon_as_it_is_whole() {
     assert_eq!(with_remark(&[0], 1), Err(Refusal::FormCut));
     assert_eq!(with_remark(&[0, 0], 3), Err(Refusal::FormField));
     assert!(with_remark(&[0, 1], 1).is_ok());
+}
+
+#[test]
+fn a_written_account_of_0_is_named_as_soon_as_it_is_whole() {
+    let first = |field_map: u8, tail: &[u8]| {
+        let record = [&[field_map, 0, 0, 0, 11, 1, 5][..], tail].concat();
+        read(&form_of_five(1, &[&record])).map(|_| ())
+    };
+    assert_eq!(first(0b01000, &[]), Err(Refusal::FormCut));
+    assert_eq!(first(0b01000, &[0; 3]), Err(Refusal::FormCut));
+    assert_eq!(first(0b01000, &[0; 4]), Err(Refusal::FormField));
+    assert_eq!(first(0b01010, &[0; 4]), Err(Refusal::FormField), "a second circuit is due");
+    assert_eq!(first(0b01000, &[1, 0, 0, 0]), Ok(()));
+    assert_eq!(first(0b01000, &[0, 0, 0, 1]), Ok(()));
+    assert_eq!(first(0b01001, &[0, 0]), Err(Refusal::FormField), "the remark comes first");
+    assert_eq!(first(0b01001, &[0, 1, 0, 0, 0]), Err(Refusal::FormCut));
+    assert_eq!(first(0b01001, &[0, 1, 0, 0, 0, 0]), Err(Refusal::FormField));
+    let second = |tail: &[u8]| first(0b10010, &[&[0, 0, 0, 12, 5, 1][..], tail].concat());
+    assert_eq!(second(&[]), Err(Refusal::FormCut));
+    assert_eq!(second(&[0; 3]), Err(Refusal::FormCut));
+    assert_eq!(second(&[0; 4]), Err(Refusal::FormField));
+    assert_eq!(second(&[0, 0, 1, 0]), Ok(()));
+}
+
+#[test]
+fn a_form_saved_before_has_account_0_throughout_and_is_written_back_the_same() {
+    let records: [&[u8]; 2] = [
+        &[0b00111, 0, 0, 0, 11, 1, 5, 0, 7, 0, 0, 0, 12, 5, 1, 1, 2],
+        &[0b00000, 0, 0, 0, 13, 2, 3],
+    ];
+    let form = form_of_five(0b11, &records);
+    let table = read(&form).unwrap();
+    assert!(table.circuits().all(|circuit| circuit.account == 0));
+    assert_eq!(form_of(&table), form);
 }
 
 #[test]

@@ -1,14 +1,17 @@
 //! The generator: the same seed gives the same script, and scripts reach what they are for.
 
+use std::collections::BTreeSet;
+
 use ring::comparison::Expected;
 use ring::coverage::{Coverage, Event};
+use ring::form::FORM_MOST;
 use ring::generator::{script, Generator, Kind};
 use ring::place::Direction::{Clockwise, Counterclockwise};
-use ring::plan::{parse, Command, Question, Source};
+use ring::plan::{hexadecimal, parse, Answer, Command, Planner, Question, Source};
 use ring::program::Program;
 
 const PROGRAMS: [Program; 2] = [Program::Script, Program::Plan];
-const KINDS: [Kind; 4] = [Kind::Small, Kind::Large, Kind::Mixed, Kind::Light];
+const KINDS: [Kind; 5] = [Kind::Small, Kind::Large, Kind::Mixed, Kind::Light, Kind::Forms];
 
 fn coverage(program: Program, kind: Kind, seed: u64, lines: u64) -> Coverage {
     Expected::of(program, &script(program, kind, seed, lines)).coverage
@@ -68,7 +71,7 @@ fn mixed_plan_scripts_reach_every_kind_of_line_answer_and_refusal() {
 #[test]
 fn small_and_large_scripts_reach_every_step() {
     for kind in [Kind::Small, Kind::Large] {
-        let reached = coverage_to(3, Program::Script, kind, 20_000);
+        let reached = coverage_to(5, Program::Script, kind, 20_000);
         for step in [Event::Step3aBothFit, Event::Step3aFirstFits, Event::Step3aSecondFits] {
             assert!(reached.count(step) > 30, "{kind:?} {step}");
         }
@@ -83,6 +86,24 @@ fn small_and_large_scripts_reach_every_step() {
             }
         }
     }
+}
+
+#[test]
+fn scripts_of_forms_read_and_write_longest_ones_and_many() {
+    let mut generator = Generator::new(Program::Plan, Kind::Forms, 1);
+    let mut planner = Planner::new();
+    let mut forms = BTreeSet::new();
+    for _ in 0..200 {
+        let reading = generator.next_line();
+        assert!(matches!(planner.run_line(&reading), Answer::Read { .. }));
+        let Answer::Written(form) = planner.run_line(&generator.next_line()) else {
+            panic!("the second line of each two writes");
+        };
+        assert_eq!(form.len(), FORM_MOST);
+        assert_eq!(reading, format!("read {}", hexadecimal(&form)).into_bytes());
+        forms.insert(form);
+    }
+    assert_eq!(forms.len(), 48);
 }
 
 #[test]

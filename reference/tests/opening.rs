@@ -155,6 +155,41 @@ fn step_3a_keeps_the_lower_place_of_a_circuit_and_its_return() {
     }
 }
 
+/// The circuit with an account of its own.
+fn billed(circuit: Circuit) -> Circuit {
+    Circuit { account: u32::MAX - circuit.number, ..circuit }
+}
+
+/// The table with an account at every circuit.
+fn all_billed(table: &Table) -> Table {
+    let mut table = table.clone();
+    for channel in &mut table.channels {
+        *channel = match *channel {
+            Channel::Unlit => Channel::Unlit,
+            Channel::One(circuit) => Channel::One(billed(circuit)),
+            Channel::Two(first, second) => Channel::Two(billed(first), billed(second)),
+        };
+    }
+    table
+}
+
+#[test]
+fn accounts_go_with_their_circuits_and_change_no_opening() {
+    let openings = [
+        (ring(&[1; 5]), circuit(1, 1, 2)),
+        ring_where_first_fits(),
+        (full_ring(), circuit(108, 5, 3)),
+        (ring_of_01(), circuit(15, 5, 4)),
+    ];
+    for (moves, (mut table, new)) in openings.into_iter().enumerate() {
+        let mut with_accounts = all_billed(&table);
+        let opening = open(&mut table, new).unwrap();
+        assert_eq!(opening.moves, moves);
+        assert_eq!(open(&mut with_accounts, billed(new)), Ok(opening));
+        assert_eq!(with_accounts, all_billed(&table));
+    }
+}
+
 /// Whether the pair of 3b, which stands where x was, totals N.
 fn is_3b_of_return(after: &Table, list: &[Move]) -> bool {
     match after.channels[list[0].from.index()] {
@@ -233,6 +268,16 @@ fn closing_one_of_two_leaves_the_other_alone() {
     assert_eq!(table.channels[0], Channel::One(circuit(7, 1, 3)));
     assert_eq!(table.close(7), Ok(()));
     assert_eq!(table, ring(&[2; 5]));
+}
+
+#[test]
+fn closing_one_of_two_leaves_the_account_of_the_other() {
+    let [one, two] = [circuit(1, 1, 3), circuit(2, 3, 4)].map(billed);
+    for (closed, other) in [(one, two), (two, one)] {
+        let mut table = standing(&[2; 5], &[(0, one), (0, two)]);
+        assert_eq!(table.close(closed.number), Ok(()));
+        assert_eq!(table, standing(&[2; 5], &[(0, other)]));
+    }
 }
 
 #[test]

@@ -28,7 +28,7 @@ fn answer(script: &[u8]) -> String {
 
 /// Three circuits on a ring of five nodes, and their answers: 1→3 and 3→4 clockwise at place 0,
 /// 2→1 counterclockwise at place 1.
-const SMALL: &str = "ring 5 1 1 1 1 1\nopen 1 1 3 0\nopen 2 2 1 700\nopen 3 3 4 0\n";
+const SMALL: &str = "ring 5 1 1 1 1 1\nopen 1 1 3 0 0\nopen 2 2 1 700 0\nopen 3 3 4 0 0\n";
 const SMALL_ANSWERS: &str = "ring 5 wavelengths 2\nopen 1 place 0 moves 0 looks 0\n\
     open 2 place 1 moves 0 looks 0\nopen 3 place 0 moves 0 looks 0\n";
 const SMALL_FORM: &str = "05010101010103000000000000000000000000000000\
@@ -45,6 +45,7 @@ fn is_refused_line(line: &str) {
     assert_eq!(on_small(&format!("{line}\n")), "line refused\n", "{line}");
 }
 
+example!(example_accounts, "accounts", ".plan");
 example!(example_forms, "forms", ".plan");
 example!(example_planning, "planning", ".plan");
 example!(example_saved, "saved", ".plan");
@@ -68,7 +69,7 @@ fn the_script_programs_lines_are_answered_as_there() {
 #[test]
 fn a_form_is_written_in_hexadecimal() {
     assert_eq!(on_small("write\n"), format!("write 44 {SMALL_FORM}\n"));
-    let one = answer(b"ring 5 1 1 1 1 1\nopen 11 1 5 0\nwrite\n");
+    let one = answer(b"ring 5 1 1 1 1 1\nopen 11 1 5 0 0\nwrite\n");
     let form = "05010101010101000000000000000000000000000000000000000b0105";
     assert!(one.ends_with(&format!("\nwrite 29 {form}\n")), "{one}");
     let fresh = answer(b"ring 3 0 0 64\nwrite\n");
@@ -105,11 +106,16 @@ fn each_refusal_of_a_form() {
         (format!("{ring}{}", "ff".repeat(15)), 30),
         (format!("{ring}{}", map("10")), 31),
         (format!("{ring}{}", map("01")), 30),
-        (format!("{ring}{}08", map("01")), 31),
+        (format!("{ring}{}20", map("01")), 31),
+        (format!("{ring}{}10", map("01")), 31),
+        (format!("{ring}{}08", map("01")), 30),
         (format!("{ring}{}04", map("01")), 31),
         (format!("{ring}{}01{record}00", map("01")), 30),
         (format!("{ring}{}01{record}0000", map("01")), 31),
         (format!("{ring}{}03{record}0000", map("01")), 31),
+        (format!("{ring}{}08{record}000000", map("01")), 30),
+        (format!("{ring}{}08{record}00000000", map("01")), 31),
+        (format!("{ring}{}0a{record}00000000", map("01")), 31),
         (format!("{ring}{}00{record}00", map("01")), 32),
         (format!("{ring}{}000000000b010600", map("01")), 32),
         (format!("{ring}{}000000000b0106", map("01")), 33),
@@ -206,8 +212,9 @@ fn lines_that_are_no_link_question() {
 
 #[test]
 fn the_circuits_by_rising_place() {
-    let output = "circuits 3\ncircuit 1 from 1 to 3 remark 0 place 0\n\
-        circuit 3 from 3 to 4 remark 0 place 0\ncircuit 2 from 2 to 1 remark 700 place 1\n";
+    let output = "circuits 3\ncircuit 1 from 1 to 3 remark 0 account 0 place 0\n\
+        circuit 3 from 3 to 4 remark 0 account 0 place 0\n\
+        circuit 2 from 2 to 1 remark 700 account 0 place 1\n";
     assert_eq!(on_small("circuits\n"), output);
     assert_eq!(answer(b"ring 3 1 1 1\ncircuits\n"), "ring 3 wavelengths 1\ncircuits 0\n");
     for line in ["circuits ", "circuits 3", "circuit", "Circuits"] {
@@ -217,10 +224,25 @@ fn the_circuits_by_rising_place() {
 
 #[test]
 fn the_lower_number_comes_first_at_a_place() {
-    let output = answer(b"ring 5 1 1 1 1 1\nopen 9 1 3 0\nopen 4 3 4 65535\ncircuits\n");
-    let listed = "circuits 2\ncircuit 4 from 3 to 4 remark 65535 place 0\n\
-        circuit 9 from 1 to 3 remark 0 place 0\n";
+    let output = answer(b"ring 5 1 1 1 1 1\nopen 9 1 3 0 7\nopen 4 3 4 65535 0\ncircuits\n");
+    let listed = "circuits 2\ncircuit 4 from 3 to 4 remark 65535 account 0 place 0\n\
+        circuit 9 from 1 to 3 remark 0 account 7 place 0\n";
     assert!(output.ends_with(listed), "{output}");
+}
+
+#[test]
+fn accounts_are_written_read_and_listed() {
+    let script = SMALL.replace("1 3 0 0", "1 3 0 7").replace("700 0", "700 04294967295");
+    let form = "05010101010103000000000000000000000000000000\
+        0a00000001010300000007000000030304\
+        0900000002020102bcffffffff";
+    let listed = "circuits 3\ncircuit 1 from 1 to 3 remark 0 account 7 place 0\n\
+        circuit 3 from 3 to 4 remark 0 account 0 place 0\n\
+        circuit 2 from 2 to 1 remark 700 account 4294967295 place 1\n";
+    let output = answer(format!("{script}write\n{SMALL}read {form}\ncircuits\n").as_bytes());
+    let expected =
+        format!("{SMALL_ANSWERS}write 52 {form}\n{SMALL_ANSWERS}read 5 wavelengths 2\n{listed}");
+    assert_eq!(output, expected);
 }
 
 #[test]
@@ -228,7 +250,7 @@ fn only_reading_and_rings_need_no_table() {
     let path = Folder::new("no_table");
     let file = path.file("form");
     let lines = format!(
-        "write\nwrite @{file}\nload\nlink 1 0 0\nlink 9 9 9\ncircuits\nopen 1 1 2 0\nclose 1\n"
+        "write\nwrite @{file}\nload\nlink 1 0 0\nlink 9 9 9\ncircuits\nopen 1 1 2 0 0\nclose 1\n"
     );
     assert_eq!(answer(lines.as_bytes()), "line refused\n".repeat(8));
     assert!(!path.path.join("form").exists());
@@ -302,9 +324,9 @@ fn rings_openings_and_closings_keep_256_bytes() {
     };
     assert_eq!(on_small(&filled("close 9", 256)), "close refused 15\n");
     assert_eq!(on_small(&filled("ring 2 1", 256)), "ring refused 1\n");
-    assert_eq!(on_small(&filled("open 9 9 9 0", 256)), "open 9 refused 10\n");
+    assert_eq!(on_small(&filled("open 9 9 9 0 0", 256)), "open 9 refused 10\n");
     for length in [257, 300, 8192, 8193] {
-        for line in ["close 9", "ring 2 1", "open 9 9 9 0"] {
+        for line in ["close 9", "ring 2 1", "open 9 9 9 0 0"] {
             assert_eq!(on_small(&filled(line, length)), "line refused\n", "{line}, {length} bytes");
         }
     }

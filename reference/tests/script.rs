@@ -40,8 +40,9 @@ example!(example_dimensions, "dimensions", ".script");
 
 #[test]
 fn the_script_of_document_01() {
-    let script = "ring 5 1 1 1 1 1\nopen 11 1 5 0\nopen 12 2 3 0\nopen 13 4 1 0\nopen 14 3 2 0\n\
-        open 15 5 4 0\nopen 16 1 2 0\nclose 13\nopen 16 4 1 0\n";
+    let script =
+        "ring 5 1 1 1 1 1\nopen 11 1 5 0 0\nopen 12 2 3 0 0\nopen 13 4 1 0 0\nopen 14 3 2 0 0\n\
+        open 15 5 4 0 0\nopen 16 1 2 0 0\nclose 13\nopen 16 4 1 0 0\n";
     // 14 joins 12, its return, counterclockwise. So 15 finds place 3 unlit: with 11 and with 13 its
     // hops total 8 and 6, and both stand clockwise. 16 then joins 15 there, with 6 hops in total.
     let output = "ring 5 wavelengths 2\nopen 11 place 0 moves 0 looks 0\n\
@@ -62,7 +63,7 @@ fn lines_end_at_lf() {
 
 #[test]
 fn lines_that_are_no_request() {
-    let lines: [&[u8]; 22] = [
+    let lines: [&[u8]; 26] = [
         b"\n",
         b" \n",
         b"ring\n",
@@ -82,7 +83,11 @@ fn lines_that_are_no_request() {
         b"closes 1\n",
         b"close 1 1\n",
         b"open 1 1 2\n",
-        b"open 1 1 2 0 0\n",
+        b"open 1 1 2 0\n",
+        b"open 1 1 2 0 \n",
+        b"open 1 1 2 0 -1\n",
+        b"open 1 1 2 0 7x\n",
+        b"open 1 1 2 0 0 0\n",
         b"close 1\0\n",
         b"close \xB2\n",
     ];
@@ -91,17 +96,20 @@ fn lines_that_are_no_request() {
 
 #[test]
 fn numbers_too_wide_for_their_field() {
-    let lines: [&[u8]; 12] = [
+    let lines: [&[u8]; 15] = [
         b"ring 256 1 1 1\n",
         b"ring 3 1 1 256\n",
         b"ring 2 300\n",
         b"ring 65 1 1 256\n",
-        b"open 4294967296 1 2 0\n",
-        b"open 18446744073709551617 1 2 0\n",
-        b"open 1 256 2 0\n",
-        b"open 1 1 256 0\n",
-        b"open 1 1 2 65536\n",
-        b"open 1 257 258 0\n",
+        b"open 4294967296 1 2 0 0\n",
+        b"open 18446744073709551617 1 2 0 0\n",
+        b"open 1 256 2 0 0\n",
+        b"open 1 1 256 0 0\n",
+        b"open 1 1 2 65536 0\n",
+        b"open 1 257 258 0 0\n",
+        b"open 1 1 2 0 4294967296\n",
+        b"open 1 1 2 0 00000000004294967296\n",
+        b"open 1 1 2 0 18446744073709551616\n",
         b"close 4294967296\n",
         b"close 00000000004294967296\n",
     ];
@@ -112,10 +120,10 @@ fn numbers_too_wide_for_their_field() {
 
 #[test]
 fn the_widest_numbers_are_taken() {
-    let line = b"open 4294967295 0001 00000000000002 065535\nclose 004294967295\n";
+    let line = b"open 4294967295 0001 00000000000002 065535 004294967295\nclose 004294967295\n";
     assert_eq!(on_ring(line), "open 4294967295 place 0 moves 0 looks 0\nclose 4294967295\n");
-    assert_eq!(on_ring(b"open 00 1 2 0\n"), "open 0 place 0 moves 0 looks 0\n");
-    assert_eq!(on_ring(b"open 7 255 1 0\n"), "open 7 refused 10\n");
+    assert_eq!(on_ring(b"open 00 1 2 0 0\n"), "open 0 place 0 moves 0 looks 0\n");
+    assert_eq!(on_ring(b"open 7 255 1 0 0\n"), "open 7 refused 10\n");
     assert_eq!(on_ring(b"ring 3 1 255 1\n"), "ring refused 2\n");
     assert_eq!(on_ring(b"ring 255 255\n"), "ring refused 1\n");
     assert_eq!(on_ring(b"ring 3\n"), "ring refused 1\n");
@@ -158,7 +166,7 @@ fn the_size_of_the_reads_does_not_matter() {
 
 #[test]
 fn no_opening_or_closing_before_the_first_accepted_ring() {
-    let script = b"open 1 1 2 0\nring 3 1 1\nclose 1\nring 3 1 1 1\nclose 1\n";
+    let script = b"open 1 1 2 0 0\nring 3 1 1\nclose 1\nring 3 1 1 1\nclose 1\n";
     let output =
         "line refused\nring refused 1\nline refused\nring 3 wavelengths 1\nclose refused 15\n";
     assert_eq!(answer(script), output);
@@ -167,8 +175,8 @@ fn no_opening_or_closing_before_the_first_accepted_ring() {
 #[test]
 fn a_refused_ring_keeps_the_table_and_an_accepted_one_replaces_it() {
     let opened = "open 1 place 0 moves 0 looks 0\n";
-    let refused = on_ring(b"open 1 1 2 0\nring 2 1 1\nclose 1\n");
+    let refused = on_ring(b"open 1 1 2 0 0\nring 2 1 1\nclose 1\n");
     assert_eq!(refused, format!("{opened}ring refused 1\nclose 1\n"));
-    let replaced = on_ring(b"open 1 1 2 0\nring 3 1 1 1\nclose 1\n");
+    let replaced = on_ring(b"open 1 1 2 0 0\nring 3 1 1 1\nclose 1\n");
     assert_eq!(replaced, format!("{opened}ring 3 wavelengths 1\nclose refused 15\n"));
 }

@@ -3,14 +3,15 @@ use mathlib.Core.Path.{_≡_, refl}
 use mathlib.Core.List.{List, [], _∷_, map}
 use Rattle.basis.specs.Count.{All}
 use Rattle.lightpath.specs.Circuit.{ahead}
-use Rattle.lit_words.specs.Lit.{word, noneLitFrom}
+use Rattle.lit_words.specs.Lit.{bitOf, word, noneLitFrom}
 use Rattle.moves.specs.Lent.{written}
 use Rattle.steps.specs.Steps.{planOf}
 use Rattle.ring.specs.Making.{makeOf}
 use Rattle.ring.specs.Opening.{decideOf}
 use Rattle.ring.specs.Closing.{closeOf}
-use Rattle.form.specs.Bytes.{highFirst}
+use Rattle.form.specs.Bytes.{highFirst, numberFrom}
 use Rattle.form.specs.Form.{mapBytes, fieldMap, optionalBytes, circuitBytes, recordBytes, recordsBytes, formOf}
+use Rattle.form.specs.Reading.{readPorts, mapBit, readMap, readOptional, readCircuit, mapHolds, readSecond, readRecord, readPlaceBy, readRecordsBy, checked, readTable, readOf}
 use Rattle.cases.specs.Case.{Case, answerTo, Holds}
 use Rattle.cases.specs.Table.{cases}
 
@@ -21,7 +22,7 @@ each (c ∷ cs) e = ((cc), each cs (cc))
 
 -- the answers to the table's, computed
 computed : map (λ c. answerTo (c .asked)) cases ≡ map (λ c. c .expected) cases
-unfolding ahead word noneLitFrom makeOf decideOf closeOf planOf written formOf mapBytes recordsBytes recordBytes fieldMap circuitBytes highFirst optionalBytes
+unfolding ahead word noneLitFrom makeOf decideOf closeOf planOf written formOf mapBytes recordsBytes recordBytes fieldMap circuitBytes highFirst optionalBytes bitOf numberFrom readOf readTable checked readRecordsBy readPlaceBy readRecord readSecond mapHolds readCircuit readOptional readMap mapBit readPorts
 computed = refl
 
 -- so each of its cases holds

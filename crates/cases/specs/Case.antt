@@ -22,6 +22,7 @@ use Rattle.ring.specs.Opening.{openOf, lentAfter}
 use Rattle.ring.specs.Closing.{closeOf}
 use Rattle.ring.specs.Answer.{openingAnswer}
 use Rattle.form.specs.Form.{formOf}
+use Rattle.form.specs.Reading.{readOf}
 
 -- what a case asks
 pub data Question : Type 0 where
@@ -39,6 +40,8 @@ pub data Question : Type 0 where
   closing : RingTable → ℕ → Question
   -- a table saved
   saving : RingTable → Question
+  -- a form read
+  reading : List ℕ → Question
 
 -- what it expects
 pub data Answer : Type 0 where
@@ -47,12 +50,12 @@ pub data Answer : Type 0 where
   notAdjacent : Answer
   -- K and W
   dimensions : ℕ → ℕ → Answer
-  -- the number and values of a making, an opening or a closing, with the lent list, if there is one, and the table after it
+  -- the number and values of a making, an opening, a closing or a reading, with the lent list, if there is one, and the table after it
   replied : Reply → List Move → RingTable → Answer
   -- the length of a form, and byte 0 of its map
   saved : ℕ → ℕ → Answer
 
--- the table after a making or a closing
+-- the table after a making, a closing or a reading
 abbrev pub done : RingTable → Answer
 done t = replied (record { number = 0; values = [] }) [] t
 
@@ -100,6 +103,7 @@ answerTo (ports ks) = dimensions (total ks) (wavelengths ks)
 answerTo (making N ks) = replied (verdictAnswer (makeOf N ks .verdict)) [] (makeOf N ks .table)
 answerTo (opening t c) = replied (openingAnswer (openOf t c blanks .answer)) (lentAfter t c blanks) (openOf t c blanks .table)
 answerTo (closing t n) = replied (verdictAnswer (closeOf t n .verdict)) [] (closeOf t n .table)
+answerTo (reading s) = replied (verdictAnswer (readOf s .verdict)) [] (readOf s .table)
 answerTo (saving t) = saved (length (formOf t)) (getD (formOf t) (mapStart t) 0)
 
 -- a case holds when that is what it expects

@@ -1,6 +1,6 @@
 -- The cases that document 01 marks P, its script request by request, and those of document 02, in one table. Assumes nothing.
 -- 01's and 02's cases, for a reader to check beside them.
-use Prim.Native.Nat.{ℕ, _-_}
+use Prim.Native.Nat.{ℕ, zero, suc, _+_, _-_, _*_, _%_}
 use mathlib.Core.List.{List, [], _∷_, _++_, map}
 use lib.ListN.{length, replicate}
 use Rattle.lightpath.specs.declared.Direction.the-variants.{Clockwise as clockwise, Counterclockwise as counterclockwise}
@@ -12,11 +12,12 @@ use Rattle.moves.specs.declared.Move.{Move}
 use Rattle.moves.specs.Lent.{blanks}
 use Rattle.ring.specs.declared.RingTable.{RingTable}
 use Rattle.ring.specs.Table.{blankTable}
-use Rattle.cases.specs.Case.{pair, pairBeforeE1, ports, making, opening, closing, saving, shares, notAdjacent, dimensions, saved, done, refused, opened, notOpened, Case, _gives_}
+use Rattle.form.specs.Form.{formOf}
+use Rattle.cases.specs.Case.{pair, pairBeforeE1, ports, making, opening, closing, saving, reading, shares, notAdjacent, dimensions, saved, done, refused, opened, notOpened, Case, _gives_}
 
--- a circuit without a remark: number, source, destination
+-- a circuit without a remark and without an account: number, source, destination
 abbrev circuit : ℕ → ℕ → ℕ → Circuit
-circuit n s d = record { number = n; source = s; destination = d; remark = 0 }
+circuit n s d = record { number = n; source = s; destination = d; remark = 0; account = 0 }
 
 infix 20 _⟶_
 -- one whose number does not matter
@@ -98,6 +99,72 @@ ring4 u = ring 4 (2 ∷ 1 ∷ 2 ∷ 1 ∷ []) u
 abbrev returns : RingTable
 returns = ring4 (shared (circuit 51 4 1) (circuit 52 3 4) ∷ alone (circuit 53 3 1) ∷ alone (circuit 55 1 3) ∷ alone (circuit 56 1 2) ∷ [])
 
+-- a ring of three nodes with a port each
+abbrev ring3 : List Slot → RingTable
+ring3 u = ring 3 (replicate 3 1) u
+
+-- its saved form with these bytes as the record of place 0, and no other record
+abbrev form3 : List ℕ → List ℕ
+form3 bytes = 3 ∷ 1 ∷ 1 ∷ 1 ∷ 1 ∷ (replicate 15 0 ++ bytes)
+
+-- the two circuits of that record, each with a remark and an account
+abbrev first : ℕ → ℕ → Circuit
+first r x = record { number = 7; source = 1; destination = 2; remark = r; account = x }
+
+abbrev second : ℕ → ℕ → Circuit
+second r x = record { number = 8; source = 2; destination = 3; remark = r; account = x }
+
+-- their fields as bytes: the first, its remark 258 and its account 16,909,060; the second, its remark 513 and its account 67,305,985
+abbrev n1 : List ℕ
+n1 = 0 ∷ 0 ∷ 0 ∷ 7 ∷ 1 ∷ 2 ∷ []
+
+abbrev r1 : List ℕ
+r1 = 1 ∷ 2 ∷ []
+
+abbrev a1 : List ℕ
+a1 = 1 ∷ 2 ∷ 3 ∷ 4 ∷ []
+
+abbrev n2 : List ℕ
+n2 = 0 ∷ 0 ∷ 0 ∷ 8 ∷ 2 ∷ 3 ∷ []
+
+abbrev r2 : List ℕ
+r2 = 2 ∷ 1 ∷ []
+
+abbrev a2 : List ℕ
+a2 = 4 ∷ 3 ∷ 2 ∷ 1 ∷ []
+
+-- the field maps with bit 2 or bit 4 and without bit 1, and those of bits 5, 6 and 7
+abbrev badMaps : List ℕ
+badMaps = 4 ∷ 5 ∷ 12 ∷ 13 ∷ 16 ∷ 17 ∷ 20 ∷ 21 ∷ 24 ∷ 25 ∷ 28 ∷ 29 ∷ 32 ∷ 64 ∷ 128 ∷ []
+
+-- what a record of these bytes is read as; by what it is refused
+infix 70 _readAs_
+abbrev _readAs_ : List ℕ → List Slot → Case
+bytes readAs u = reading (form3 bytes) gives done (ring3 u)
+
+infix 70 _refusedBy_
+abbrev _refusedBy_ : List ℕ → ℕ → Case
+bytes refusedBy n = reading (form3 bytes) gives refused n blankTable
+
+-- a ring of 64 nodes with three ports each, all of them in use, and every place lit: a circuit and its return at each of the lower 64 places,
+-- one circuit at each of the others, all with a remark and an account
+abbrev billed : ℕ → ℕ → ℕ → Circuit
+billed n s d = record { number = n; source = s; destination = d; remark = n; account = n }
+
+abbrev thereAndBack : ℕ → Slot
+thereAndBack i = let next = i % 64 + 1 in shared (billed (2 * i) i next) (billed (2 * i + 1) next i)
+
+abbrev onward : ℕ → Slot
+onward i = alone (billed (200 + i) i ((i + 1) % 64 + 1))
+
+-- the nodes from i on, k of them
+abbrev nodesFrom : ℕ → ℕ → List ℕ
+nodesFrom zero i = []
+nodesFrom (suc k) i = i ∷ nodesFrom k (suc i)
+
+abbrev fullRing : RingTable
+fullRing = ring 64 (replicate 64 3) (map thereAndBack (nodesFrom 64 1) ++ map onward (nodesFrom 64 1))
+
 -- what is asked, and what the documents say to it
 abbrev pub cases : List Case
 cases =
@@ -149,4 +216,37 @@ cases =
     ∷ opening returns (circuit 57 2 3)
     gives opened 2 1 1 (move 55 2 1 ∷ blank ∷ blank ∷ [])
     (ring4 (shared (circuit 51 4 1) (circuit 52 3 4) ∷ shared (circuit 53 3 1) (circuit 55 1 3) ∷ alone (circuit 57 2 3) ∷ alone (circuit 56 1 2) ∷ []))
-    ∷ []
+    -- the field maps of one circuit
+    ∷ (0 ∷ n1) readAs (alone (first 0 0) ∷ [])
+    ∷ (1 ∷ n1 ++ r1) readAs (alone (first 258 0) ∷ [])
+    ∷ (8 ∷ n1 ++ a1) readAs (alone (first 0 16909060) ∷ [])
+    ∷ (9 ∷ n1 ++ r1 ++ a1) readAs (alone (first 258 16909060) ∷ [])
+    -- and of two
+    ∷ (2 ∷ n1 ++ n2) readAs (shared (first 0 0) (second 0 0) ∷ [])
+    ∷ (3 ∷ n1 ++ r1 ++ n2) readAs (shared (first 258 0) (second 0 0) ∷ [])
+    ∷ (6 ∷ n1 ++ n2 ++ r2) readAs (shared (first 0 0) (second 513 0) ∷ [])
+    ∷ (7 ∷ n1 ++ r1 ++ n2 ++ r2) readAs (shared (first 258 0) (second 513 0) ∷ [])
+    ∷ (10 ∷ n1 ++ a1 ++ n2) readAs (shared (first 0 16909060) (second 0 0) ∷ [])
+    ∷ (11 ∷ n1 ++ r1 ++ a1 ++ n2) readAs (shared (first 258 16909060) (second 0 0) ∷ [])
+    ∷ (14 ∷ n1 ++ a1 ++ n2 ++ r2) readAs (shared (first 0 16909060) (second 513 0) ∷ [])
+    ∷ (15 ∷ n1 ++ r1 ++ a1 ++ n2 ++ r2) readAs (shared (first 258 16909060) (second 513 0) ∷ [])
+    ∷ (18 ∷ n1 ++ n2 ++ a2) readAs (shared (first 0 0) (second 0 67305985) ∷ [])
+    ∷ (19 ∷ n1 ++ r1 ++ n2 ++ a2) readAs (shared (first 258 0) (second 0 67305985) ∷ [])
+    ∷ (22 ∷ n1 ++ n2 ++ r2 ++ a2) readAs (shared (first 0 0) (second 513 67305985) ∷ [])
+    ∷ (23 ∷ n1 ++ r1 ++ n2 ++ r2 ++ a2) readAs (shared (first 258 0) (second 513 67305985) ∷ [])
+    ∷ (26 ∷ n1 ++ a1 ++ n2 ++ a2) readAs (shared (first 0 16909060) (second 0 67305985) ∷ [])
+    ∷ (27 ∷ n1 ++ r1 ++ a1 ++ n2 ++ a2) readAs (shared (first 258 16909060) (second 0 67305985) ∷ [])
+    ∷ (30 ∷ n1 ++ a1 ++ n2 ++ r2 ++ a2) readAs (shared (first 0 16909060) (second 513 67305985) ∷ [])
+    ∷ (31 ∷ n1 ++ r1 ++ a1 ++ n2 ++ r2 ++ a2) readAs (shared (first 258 16909060) (second 513 67305985) ∷ [])
+    -- a written account of 0, as soon as its four bytes are there; cut short before
+    ∷ (8 ∷ n1 ++ 0 ∷ 0 ∷ 0 ∷ 0 ∷ []) refusedBy 31
+    ∷ (8 ∷ n1 ++ 0 ∷ 0 ∷ 0 ∷ []) refusedBy 30
+    ∷ (10 ∷ n1 ++ 0 ∷ 0 ∷ 0 ∷ 0 ∷ []) refusedBy 31
+    ∷ (26 ∷ n1 ++ a1 ++ n2 ++ 0 ∷ 0 ∷ 0 ∷ 0 ∷ []) refusedBy 31
+    ∷ (26 ∷ n1 ++ a1 ++ n2) refusedBy 30
+    -- the longest form
+    ∷ saving fullRing gives saved 2513 255
+    ∷ reading (formOf fullRing) gives done fullRing
+    -- bit 2 or bit 4 without bit 1, and bits 5 to 7, with every field after them and with none
+    ∷ map (λ m. (m ∷ n1 ++ r1 ++ a1 ++ n2 ++ r2 ++ a2) refusedBy 31) badMaps
+    ++ map (λ m. (m ∷ []) refusedBy 31) badMaps

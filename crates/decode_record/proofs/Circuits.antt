@@ -11,6 +11,7 @@ use lib.Seq.{drop-cons, drop-drop, length-take-le}
 use mir.Syntax.{w16}
 use mir.Val.{Fits}
 use borrow.Author.Tests.{le-leb, lt-leb, eq-eqb, ne-eqb, not-true, not-false}
+use Rattle.lightpath.specs.declared.Circuit.{Circuit}
 use Rattle.refusals.specs.declared.Refusal.{Refusal}
 use Rattle.refusals.specs.declared.Refusal.the-variants.{CutShort, BadField}
 use Rattle.form.specs.Bytes.{numberIn}
@@ -61,47 +62,61 @@ module _ (width : ℕ) (b : List ℕ) (i : ℕ) (m : Bool) where
 pub ruleset optionalRules = (optional-none, zero-small, optional-cut, optional-zero, optional-got, optional-small)
 
 -- a circuit of which six bytes are not there is cut short
-short : (m : Bool) (s : List ℕ) → length s < 6 → readCircuit m s ≡ fault CutShort
+short : (m k : Bool) (s : List ℕ) → length s < 6 → readCircuit m k s ≡ fault CutShort
 unfolding readCircuit
-short m [] h = refl
-short m (x0 ∷ []) h = refl
-short m (x0 ∷ x1 ∷ []) h = refl
-short m (x0 ∷ x1 ∷ x2 ∷ []) h = refl
-short m (x0 ∷ x1 ∷ x2 ∷ x3 ∷ []) h = refl
-short m (x0 ∷ x1 ∷ x2 ∷ x3 ∷ x4 ∷ []) h = refl
-short m (x0 ∷ x1 ∷ x2 ∷ x3 ∷ x4 ∷ x5 ∷ s) h = absurd (omega arith)
+short m k [] h = refl
+short m k (x0 ∷ []) h = refl
+short m k (x0 ∷ x1 ∷ []) h = refl
+short m k (x0 ∷ x1 ∷ x2 ∷ []) h = refl
+short m k (x0 ∷ x1 ∷ x2 ∷ x3 ∷ []) h = refl
+short m k (x0 ∷ x1 ∷ x2 ∷ x3 ∷ x4 ∷ []) h = refl
+short m k (x0 ∷ x1 ∷ x2 ∷ x3 ∷ x4 ∷ x5 ∷ s) h = absurd (omega arith)
 
--- a circuit: cut short, refused by its remark, or read
-module _ (b : List ℕ) (i : ℕ) (m : Bool) (l : i ≤ length b) where
-  pub circuit-cut : length b - i < 6 → readCircuit m (drop i b) ≡ fault CutShort
-  circuit-cut h = short m (drop i b) (simp length-drop (omega arith))
+-- the circuit of number n whose nodes stand after four bytes at i, with a remark and an account
+abbrev pub circuitAt : List ℕ → ℕ → ℕ → ℕ → ℕ → Circuit
+circuitAt b i n r x = record { number = n; source = getD b (i + 4) 0; destination = getD b (i + 4 + 1) 0; remark = r; account = x }
+
+-- a circuit: cut short, refused by its remark or its account, or read
+module _ (b : List ℕ) (i : ℕ) (m k : Bool) (l : i ≤ length b) where
+  pub circuit-cut : length b - i < 6 → readCircuit m k (drop i b) ≡ fault CutShort
+  circuit-cut h = short m k (drop i b) (simp length-drop (omega arith))
 
   module _ (h : 6 ≤ length b - i) (n : ℕ) (e : n ≡ numberIn (take (i + 4 - i) (drop i b)))
       (f : OptionalRead) (a : OptionalAt 2 b f (readOptional 2 m (drop (i + 4 + 2) b))) where
-    begun : readCircuit m (drop i b) ≡ andThen (readOptional 2 m (drop (i + 4 + 2) b)) (λ r. give (record { number = n; source = getD b (i + 4) 0; destination = getD b (i + 4 + 1) 0; remark = r }))
+    begun : readCircuit m k (drop i b) ≡ andThen (readOptional 2 m (drop (i + 4 + 2) b)) (λ r s. andThen (readOptional 4 k s) (λ x. give (circuitAt b i n r x)))
     unfolding readCircuit
     begun =
         let w : i + 4 - i ≡ 4 = omega arith in
-        let k : n ≡ numberIn (take 4 (drop i b)) = rw w at e in
+        let v : n ≡ numberIn (take 4 (drop i b)) = rw w at e in
         rw (
           le-leb 4 (length (drop i b)) (simp length-drop (omega arith)),
           drop-drop 4 i b,
           byte-at b (i + 4) (i + 4 + 1) (omega arith) refl,
           byte-at b (i + 4 + 1) (i + 4 + 2) (omega arith) (omega arith),
-          k,
+          v,
         )
 
-    pub circuit-fault : (r : Refusal) → f ≡ Refused r → readCircuit m (drop i b) ≡ fault r
-    circuit-fault r g = begun ∙ rw (rw g at a)
+    pub remark-fault : (r : Refusal) → f ≡ Refused r → readCircuit m k (drop i b) ≡ fault r
+    remark-fault r g = begun ∙ rw (rw g at a)
 
-    pub circuit-got : (r k : ℕ) → f ≡ Got r k
-        → readCircuit m (drop i b) ≡ got (record { number = n; source = getD b (i + 4) 0; destination = getD b (i + 4 + 1) 0; remark = r }) (drop k b)
-    circuit-got r k g = begun ∙ rw ((rw g at a) .2)
+    module _ (r j : ℕ) (g : f ≡ Got r j) where
+      pub remark-within : j ≤ length b
+      remark-within = (rw g at a) .0
 
-    pub circuit-within : (r k : ℕ) → f ≡ Got r k → k ≤ length b
-    circuit-within r k g = (rw g at a) .0
+      pub remark-fits : Fits w16 r
+      remark-fits = omega (arith, (rw g at a) .1)
 
-    pub remark-fits : (r k : ℕ) → f ≡ Got r k → Fits w16 r
-    remark-fits r k g = omega (arith, (rw g at a) .1)
+      module _ (o : OptionalRead) (c : OptionalAt 4 b o (readOptional 4 k (drop j b))) where
+        remarked : readCircuit m k (drop i b) ≡ andThen (readOptional 4 k (drop j b)) (λ x. give (circuitAt b i n r x))
+        remarked = begun ∙ rw ((rw g at a) .2)
 
-pub ruleset circuitRules = (circuit-cut, circuit-fault, circuit-got, circuit-within, remark-fits)
+        pub account-fault : (y : Refusal) → o ≡ Refused y → readCircuit m k (drop i b) ≡ fault y
+        account-fault y z = remarked ∙ rw (rw z at c)
+
+        pub circuit-got : (x t : ℕ) → o ≡ Got x t → readCircuit m k (drop i b) ≡ got (circuitAt b i n r x) (drop t b)
+        circuit-got x t z = remarked ∙ rw ((rw z at c) .2)
+
+        pub circuit-within : (x t : ℕ) → o ≡ Got x t → t ≤ length b
+        circuit-within x t z = (rw z at c) .0
+
+pub ruleset circuitRules = (circuit-cut, remark-fault, remark-within, remark-fits, account-fault, circuit-got, circuit-within)

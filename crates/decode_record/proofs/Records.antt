@@ -1,7 +1,7 @@
 -- Reading the record of a place. Assumes nothing.
 use Prim.Native.Nat.{ℕ, _+_, _≤_, _<_}
 use mathlib.Core.Path.{_≡_, refl, _∙_}
-use mathlib.Core.Bool.{Bool, true, false, not}
+use mathlib.Core.Bool.{Bool, true, false, _||_, not}
 use mathlib.Core.List.{List}
 use lib.ListN.{length, getD, drop, drop-of-length-le}
 use borrow.Author.Tests.{not-true, not-false}
@@ -10,7 +10,7 @@ use Rattle.slots.specs.declared.Slot.the-variants.{Unlit as unlit, Alone as alo
 use Rattle.lit_words.specs.Lit.{bitOf}
 use Rattle.refusals.specs.declared.Refusal.{Refusal}
 use Rattle.refusals.specs.declared.Refusal.the-variants.{CutShort, BadField}
-use Rattle.form.specs.Reader.{got, fault, andThen}
+use Rattle.form.specs.Reader.{Field, got, fault, andThen}
 use Rattle.form.specs.Reading.{readCircuit, mapHolds, readSecond, readRecord, readPlaceBy, readPlace}
 use Rattle.decode_record.specs.declared.circuit.CircuitRead.{CircuitRead}
 use Rattle.decode_record.specs.declared.circuit.CircuitRead.the-variants.{Got, Refused}
@@ -18,25 +18,36 @@ use Rattle.decode_record.specs.declared.SlotRead.{SlotRead}
 use Rattle.decode_record.specs.Found.{CircuitAt, SlotAt}
 use Rattle.decode_record.proofs.Circuits.{byte-at}
 
+-- the position after a circuit that was read is within the form
+pub read-within : (b : List ℕ) (f : CircuitRead) (x : Field Circuit) → CircuitAt b f x → (c : Circuit) (k : ℕ) → f ≡ Got c k → k ≤ length b
+read-within b f x h c k g = (rw g at h) .0
+
+-- a remark or an account of a second circuit that is not there
+module _ (x y r : Bool) where
+  pub has-remark : x ≡ true → r ≡ false → r ≡ not (x || y)
+  has-remark e h = rw e h
+
+  pub has-account : x ≡ false → r ≡ not y → r ≡ not (x || y)
+  has-account e h = rw e h
+
+pub ruleset mapRules = (has-remark, has-account)
+
 -- the second circuit: none, refused, or read
-module _ (b : List ℕ) (i : ℕ) (a : Circuit) (second m : Bool) where
-  pub no-second : not second ≡ true → readSecond a second m (drop i b) ≡ got (alone a) (drop i b)
+module _ (b : List ℕ) (i : ℕ) (a : Circuit) (second m x : Bool) where
+  pub no-second : not second ≡ true → readSecond a second m x (drop i b) ≡ got (alone a) (drop i b)
   unfolding readSecond
   no-second e = rw (not-true second e)
 
-  module _ (e : not second ≡ false) (f : CircuitRead) (h : CircuitAt b f (readCircuit m (drop i b))) where
-    pub second-fault : (r : Refusal) → f ≡ Refused r → readSecond a second m (drop i b) ≡ fault r
+  module _ (e : not second ≡ false) (f : CircuitRead) (h : CircuitAt b f (readCircuit m x (drop i b))) where
+    pub second-fault : (r : Refusal) → f ≡ Refused r → readSecond a second m x (drop i b) ≡ fault r
     unfolding readSecond
     second-fault r g = rw (not-false second e, rw g at h)
 
-    pub second-got : (c : Circuit) (k : ℕ) → f ≡ Got c k → readSecond a second m (drop i b) ≡ got (shared a c) (drop k b)
+    pub second-got : (c : Circuit) (k : ℕ) → f ≡ Got c k → readSecond a second m x (drop i b) ≡ got (shared a c) (drop k b)
     unfolding readSecond
     second-got c k g = rw (not-false second e, (rw g at h) .1)
 
-    pub second-within : (c : Circuit) (k : ℕ) → f ≡ Got c k → k ≤ length b
-    second-within c k g = (rw g at h) .0
-
-pub ruleset secondRules = (no-second, second-fault, second-got, second-within)
+pub ruleset secondRules = (no-second, second-fault, second-got, read-within)
 
 -- a record: cut short, with a bad field map, or read circuit by circuit
 module _ (b : List ℕ) (i : ℕ) where
@@ -49,24 +60,22 @@ module _ (b : List ℕ) (i : ℕ) where
     unfolding readRecord
     map-bad t = rw (byte-at b i (i + 1) h refl, ← e, not-true v t)
 
-    module _ (t : not v ≡ false) (m0 : Bool) (e0 : m0 ≡ bitOf (getD b i 0) 0) (f : CircuitRead) (a : CircuitAt b f (readCircuit m0 (drop (i + 1) b))) where
-      mapped : readRecord (drop i b) ≡ andThen (readCircuit m0 (drop (i + 1) b)) (λ c. readSecond c (bitOf (getD b i 0) 1) (bitOf (getD b i 0) 2))
+    module _ (t : not v ≡ false) (m0 m3 : Bool) (e0 : m0 ≡ bitOf (getD b i 0) 0) (e3 : m3 ≡ bitOf (getD b i 0) 3)
+        (f : CircuitRead) (a : CircuitAt b f (readCircuit m0 m3 (drop (i + 1) b))) where
+      mapped : readRecord (drop i b) ≡ andThen (readCircuit m0 m3 (drop (i + 1) b)) (λ c. readSecond c (bitOf (getD b i 0) 1) (bitOf (getD b i 0) 2) (bitOf (getD b i 0) 4))
       unfolding readRecord
-      mapped = rw (byte-at b i (i + 1) h refl, ← e, not-false v t, e0)
+      mapped = rw (byte-at b i (i + 1) h refl, ← e, not-false v t, e0, e3)
 
       pub record-fault : (r : Refusal) → f ≡ Refused r → readRecord (drop i b) ≡ fault r
       record-fault r g = mapped ∙ rw (rw g at a)
 
-      pub first-within : (c : Circuit) (k : ℕ) → f ≡ Got c k → k ≤ length b
-      first-within c k g = (rw g at a) .0
-
-      pub record-got : (c : Circuit) (k : ℕ) (m1 m2 : Bool) (s : SlotRead) → f ≡ Got c k → m1 ≡ bitOf (getD b i 0) 1 → m2 ≡ bitOf (getD b i 0) 2
-          → SlotAt b s (readSecond c m1 m2 (drop k b)) → SlotAt b s (readRecord (drop i b))
-      record-got c k m1 m2 s g e1 e2 q =
-          let z : readRecord (drop i b) ≡ readSecond c m1 m2 (drop k b) = mapped ∙ rw ((rw g at a) .1, e1, e2) in
+      pub record-got : (c : Circuit) (k : ℕ) (m1 m2 m4 : Bool) (s : SlotRead) → f ≡ Got c k → m1 ≡ bitOf (getD b i 0) 1 → m2 ≡ bitOf (getD b i 0) 2 → m4 ≡ bitOf (getD b i 0) 4
+          → SlotAt b s (readSecond c m1 m2 m4 (drop k b)) → SlotAt b s (readRecord (drop i b))
+      record-got c k m1 m2 m4 s g e1 e2 e4 q =
+          let z : readRecord (drop i b) ≡ readSecond c m1 m2 m4 (drop k b) = mapped ∙ rw ((rw g at a) .1, e1, e2, e4) in
           rw z q
 
-pub ruleset recordRules = (record-cut, map-bad, record-fault, first-within, record-got)
+pub ruleset recordRules = (record-cut, map-bad, record-fault, read-within, record-got)
 
 -- a place has a record only where it is lit
 pub place-lit : (b s : List ℕ) (lit : Bool) (r : SlotRead) → lit ≡ true → SlotAt b r (readRecord s) → SlotAt b r (readPlace lit s)

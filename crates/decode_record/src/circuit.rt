@@ -6,6 +6,7 @@ ghost use Rattle.form.specs.Reading.{readCircuit};
 ghost use Rattle.decode_record.specs.Found.{CircuitAt};
 use crate::optional;
 use crate::optional::OptionalRead;
+use form::ACCOUNT_WIDTH;
 use form::NUMBER_WIDTH;
 use form::PLAIN_WIDTH;
 use form::REMARK_WIDTH;
@@ -18,10 +19,10 @@ pub enum CircuitRead {
     Refused(Refusal),
 }
 
-// Reads a circuit.
-pub fn read_circuit(form: &[u8], at: usize, remarked: bool) -> CircuitRead
+// Reads a circuit, with a remark and with an account where their bits of the field map stand.
+pub fn read_circuit(form: &[u8], at: usize, remarked: bool, billed: bool) -> CircuitRead
     requires { ⌜ at ≤ length (now form) ⌝ }
-    ensures { λ r. ⌜ CircuitAt (now (form .entry)) r (readCircuit remarked (drop at (now (form .entry)))) ⌝ }
+    ensures { λ r. ⌜ CircuitAt (now (form .entry)) r (readCircuit remarked billed (drop at (now (form .entry)))) ⌝ }
 {
     if form.len() - at < PLAIN_WIDTH {
         return CircuitRead::Refused(Refusal::CutShort);
@@ -34,15 +35,19 @@ pub fn read_circuit(form: &[u8], at: usize, remarked: bool) -> CircuitRead
         OptionalRead::Refused(refusal) => CircuitRead::Refused(refusal),
         OptionalRead::Got(remark, next) => {
             let remark = remark as u16;
-            CircuitRead::Got(
-                Circuit {
-                    number,
-                    source,
-                    destination,
-                    remark,
-                },
-                next,
-            )
+            match optional::read_optional(form, next, ACCOUNT_WIDTH, billed) {
+                OptionalRead::Refused(refusal) => CircuitRead::Refused(refusal),
+                OptionalRead::Got(account, end) => CircuitRead::Got(
+                    Circuit {
+                        number,
+                        source,
+                        destination,
+                        remark,
+                        account,
+                    },
+                    end,
+                ),
+            }
         }
     }
 }

@@ -23,24 +23,34 @@ pub enum SlotRead {
 fn map_holds(map: u8) -> bool
     ensures { λ r. ⌜ r ≡ mapHolds map ⌝ }
 {
-    if map < 8 {
+    if map < 32 {
         if optional::stands(map, 1) {
             return true;
         }
-        return !optional::stands(map, 2);
+        if optional::stands(map, 2) {
+            return false;
+        }
+        return !optional::stands(map, 4);
     }
     false
 }
 
 // Reads the second circuit of a record, if the field map says that there is one.
-fn read_second(form: &[u8], at: usize, first: Circuit, second: bool, remarked: bool) -> SlotRead
+fn read_second(
+    form: &[u8],
+    at: usize,
+    first: Circuit,
+    second: bool,
+    remarked: bool,
+    billed: bool,
+) -> SlotRead
     requires { ⌜ at ≤ length (now form) ⌝ }
-    ensures { λ r. ⌜ SlotAt (now (form .entry)) r (readSecond first second remarked (drop at (now (form .entry)))) ⌝ }
+    ensures { λ r. ⌜ SlotAt (now (form .entry)) r (readSecond first second remarked billed (drop at (now (form .entry)))) ⌝ }
 {
     if !second {
         return SlotRead::Got(Slot::Alone(first), at);
     }
-    match circuit::read_circuit(form, at, remarked) {
+    match circuit::read_circuit(form, at, remarked, billed) {
         CircuitRead::Refused(refusal) => SlotRead::Refused(refusal),
         CircuitRead::Got(circuit, next) => SlotRead::Got(Slot::Shared(first, circuit), next),
     }
@@ -58,7 +68,9 @@ fn read_record(form: &[u8], at: usize) -> SlotRead
     if !map_holds(map) {
         return SlotRead::Refused(Refusal::BadField);
     }
-    match circuit::read_circuit(form, at + 1, optional::stands(map, 0)) {
+    let remarked = optional::stands(map, 0);
+    let billed = optional::stands(map, 3);
+    match circuit::read_circuit(form, at + 1, remarked, billed) {
         CircuitRead::Refused(refusal) => SlotRead::Refused(refusal),
         CircuitRead::Got(first, next) => read_second(
             form,
@@ -66,6 +78,7 @@ fn read_record(form: &[u8], at: usize) -> SlotRead
             first,
             optional::stands(map, 1),
             optional::stands(map, 2),
+            optional::stands(map, 4),
         ),
     }
 }

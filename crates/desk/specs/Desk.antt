@@ -57,7 +57,8 @@ runRing d n ks =
     let a = makeOf n ks in
     record { desk = deskAfter d (a .table) (a .verdict); text = ringLine n (wavelengths (a .table .ports)) (a .verdict) }
 
--- "`open number source destination remark`", with the least records lent, three; "an open or close before the first accepted ring" is refused
+-- "`open number source destination remark`" and the account, with the least records lent, three; "an open or close before the first accepted
+-- ring" is refused
 unfoldable pub runOpen : Desk → Circuit → Outcome
 runOpen d c =
     let a = decideOf (d .table) c leastRecords in

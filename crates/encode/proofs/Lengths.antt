@@ -15,7 +15,8 @@ use Rattle.lit_words.specs.Lit.{onesOf}
 use Rattle.channels.specs.Channels.{Channels, unlitChannel, at, litPlaces, litOf}
 use Rattle.channels.proofs.LitPlaces.{lit-places}
 use Rattle.ring.specs.declared.RingTable.{RingTable}
-use Rattle.form.specs.Form.{circuitMost, recordBytes, recordsBytes, formOf}
+use Rattle.form.specs.Form.{recordBytes, recordsBytes, formOf}
+use Rattle.form.specs.Most.{circuitMost}
 use Rattle.form.proofs.Length.{form-length}
 
 -- the circuits of the places below p take sum bytes

@@ -7,7 +7,8 @@ ghost use Rattle.limits.specs.Limits.{circuitRoom};
 ghost use Rattle.lit_words.specs.Lit.{onesOf};
 ghost use Rattle.channels.specs.Channels.{litOf};
 ghost use Rattle.buffer.specs.Put.{Room, Put};
-ghost use Rattle.form.specs.Form.{circuitMost, recordsBytes};
+ghost use Rattle.form.specs.Form.{recordsBytes};
+ghost use Rattle.form.specs.Most.{circuitMost};
 use channels::Channel;
 use limits::PLACE_COUNT;
 

@@ -1,8 +1,8 @@
 -- The bytes of a circuit, part by part. Each law takes what the calls ensured as it stands in the record of a need, so that `search`
 -- finds it. Assumes nothing.
 use Prim.Native.Nat.{ℕ, _<_}
-use mathlib.Core.Path.{_≡_, refl}
-use mathlib.Core.List.{List, [], _∷_}
+use mathlib.Core.Path.{_≡_, refl, sym}
+use mathlib.Core.List.{List, [], _∷_, append-assoc}
 use native.Mathlib.Nat.{add-zero}
 use native.Mathlib.Omega.{arith}
 use borrow.Author.Tests.{eq-eqb, ne-eqb}
@@ -10,8 +10,9 @@ use Rattle.lightpath.specs.declared.Circuit.{Circuit}
 use Rattle.buffer.specs.Put.{Room, Put}
 use Rattle.buffer.proofs.Chain.{Putting, start, first, then, done}
 use Rattle.form.specs.Bytes.{highFirst}
-use Rattle.form.specs.Form.{optionalBytes, numberWidth, remarkWidth, circuitBytes}
+use Rattle.form.specs.Form.{optionalBytes, numberWidth, remarkWidth, accountWidth, circuitBytes}
 use Rattle.byte_numbers.specs.Widths.{Wide}
+use Rattle.encode_record.specs.Fields.{plainFields, optionalFields}
 
 -- an optional field only where it is there
 module _ (width v : ℕ) (l : List ℕ) (i : ℕ) where
@@ -39,28 +40,60 @@ wide-four n h = record { some = omega arith; most = omega arith; fits = h }
 pub wide-two : (n : ℕ) → n < 65536 → Wide remarkWidth n
 wide-two n h = record { some = omega arith; most = omega arith; fits = h }
 
--- a circuit: number, source, destination, remark
-module _ (c : Circuit) (l : List ℕ) (i : ℕ) (h : Room l i (circuitBytes c)) where
-  circuit-begun : Putting l i (circuitBytes c) l i (highFirst numberWidth (c .number)) ((c .source ∷ []) ∷ (c .destination ∷ []) ∷ optionalBytes remarkWidth (c .remark) ∷ [])
-  unfolding circuitBytes
-  circuit-begun = start _ _ refl h
+-- the fields that every circuit has: number, source, destination
+module _ (c : Circuit) (l : List ℕ) (i : ℕ) (h : Room l i (plainFields c)) where
+  plain-begun : Putting l i (plainFields c) l i (highFirst numberWidth (c .number)) ((c .source ∷ []) ∷ (c .destination ∷ []) ∷ [])
+  unfolding plainFields
+  plain-begun = start _ _ refl h
 
   pub number-room : Room l i (highFirst numberWidth (c .number))
-  number-room = first circuit-begun
+  number-room = first plain-begun
 
   module _ (l1 : List ℕ) (n1 : ℕ) (q1 : Put l i (highFirst numberWidth (c .number)) l1 n1) where
     pub source-room : Room l1 n1 (c .source ∷ [])
-    source-room = first (then q1 circuit-begun)
+    source-room = first (then q1 plain-begun)
 
     module _ (l2 : List ℕ) (n2 : ℕ) (q2 : Put l1 n1 (c .source ∷ []) l2 n2) where
       pub destination-room : Room l2 n2 (c .destination ∷ [])
-      destination-room = first (then q2 (then q1 circuit-begun))
+      destination-room = first (then q2 (then q1 plain-begun))
 
-      module _ (l3 : List ℕ) (n3 : ℕ) (q3 : Put l2 n2 (c .destination ∷ []) l3 n3) where
-        pub last-room : Room l3 n3 (optionalBytes remarkWidth (c .remark))
-        last-room = first (then q3 (then q2 (then q1 circuit-begun)))
+      pub plain-put : (l3 : List ℕ) (n3 : ℕ) → Put l2 n2 (c .destination ∷ []) l3 n3 → Put l i (plainFields c) l3 n3
+      plain-put l3 n3 q3 = done q3 (then q2 (then q1 plain-begun))
 
-        pub circuit-put : (l4 : List ℕ) (n4 : ℕ) → Put l3 n3 (optionalBytes remarkWidth (c .remark)) l4 n4 → Put l i (circuitBytes c) l4 n4
-        circuit-put l4 n4 q4 = done q4 (then q3 (then q2 (then q1 circuit-begun)))
+pub ruleset plainRules = (wide-four, number-room, source-room, destination-room, plain-put)
 
-pub ruleset circuitRules = (wide-four, wide-two, number-room, source-room, destination-room, last-room, circuit-put)
+-- those that one may be without: remark, account
+module _ (c : Circuit) (l : List ℕ) (i : ℕ) (h : Room l i (optionalFields c)) where
+  fields-begun : Putting l i (optionalFields c) l i (optionalBytes remarkWidth (c .remark)) (optionalBytes accountWidth (c .account) ∷ [])
+  unfolding optionalFields
+  fields-begun = start _ _ refl h
+
+  pub remark-room : Room l i (optionalBytes remarkWidth (c .remark))
+  remark-room = first fields-begun
+
+  module _ (l1 : List ℕ) (n1 : ℕ) (q1 : Put l i (optionalBytes remarkWidth (c .remark)) l1 n1) where
+    pub account-room : Room l1 n1 (optionalBytes accountWidth (c .account))
+    account-room = first (then q1 fields-begun)
+
+    pub fields-put : (l2 : List ℕ) (n2 : ℕ) → Put l1 n1 (optionalBytes accountWidth (c .account)) l2 n2 → Put l i (optionalFields c) l2 n2
+    fields-put l2 n2 q2 = done q2 (then q1 fields-begun)
+
+pub ruleset fieldRules = (wide-four, wide-two, remark-room, account-room, fields-put)
+
+-- a circuit: these, one after the other
+module _ (c : Circuit) (l : List ℕ) (i : ℕ) (h : Room l i (circuitBytes c)) where
+  circuit-begun : Putting l i (circuitBytes c) l i (plainFields c) (optionalFields c ∷ [])
+  unfolding circuitBytes plainFields optionalFields
+  circuit-begun = start _ _ (sym (append-assoc (highFirst numberWidth (c .number)) (c .source ∷ c .destination ∷ []) (optionalFields c))) h
+
+  pub plain-room : Room l i (plainFields c)
+  plain-room = first circuit-begun
+
+  module _ (l1 : List ℕ) (n1 : ℕ) (q1 : Put l i (plainFields c) l1 n1) where
+    pub fields-room : Room l1 n1 (optionalFields c)
+    fields-room = first (then q1 circuit-begun)
+
+    pub circuit-put : (l2 : List ℕ) (n2 : ℕ) → Put l1 n1 (optionalFields c) l2 n2 → Put l i (circuitBytes c) l2 n2
+    circuit-put l2 n2 q2 = done q2 (then q1 circuit-begun)
+
+pub ruleset circuitRules = (plain-room, fields-room, circuit-put)

@@ -1,7 +1,7 @@
 -- The length of a record. Assumes nothing.
 use Prim.Native.Nat.{ℕ, _+_}
 use mathlib.Core.Path.{_≡_, sym}
-use mathlib.Core.List.{List, _∷_}
+use mathlib.Core.List.{List, [], _∷_, _++_}
 use native.Mathlib.Omega.{arith}
 use lib.ListN.{length, length-append}
 use borrow.Author.Tests.{eq-eqb, ne-eqb}
@@ -11,7 +11,7 @@ use Rattle.slots.specs.declared.Slot.{Slot}
 use Rattle.slots.specs.declared.Slot.the-variants.{Unlit as unlit, Alone as alone, Shared as shared}
 use Rattle.slots.specs.Slot.{isLit}
 use Rattle.form.specs.Bytes.{highFirst}
-use Rattle.form.specs.Form.{optionalBytes, numberWidth, remarkWidth, circuitBytes, recordBytes}
+use Rattle.form.specs.Form.{optionalBytes, numberWidth, remarkWidth, accountWidth, circuitBytes, recordBytes}
 use Rattle.form.proofs.Numbers.{high-long}
 
 -- an optional field takes no byte, or as many as it is wide
@@ -26,11 +26,19 @@ there-long width v h = rw (ne-eqb v 0 h) (sym (high-long width v))
 pub ruleset optionalLengths = (none-long, there-long)
 
 -- a circuit takes six bytes, and those of its optional fields
-pub circuit-long : (c : Circuit) (n : ℕ) → n ≡ length (optionalBytes remarkWidth (c .remark)) → 6 + n ≡ length (circuitBytes c)
+pub circuit-long : (c : Circuit) (n m : ℕ) → n ≡ length (optionalBytes remarkWidth (c .remark)) → m ≡ length (optionalBytes accountWidth (c .account))
+    → 6 + n + m ≡ length (circuitBytes c)
 unfolding circuitBytes
-circuit-long c n e =
+circuit-long c n m e g =
+    let number : List ℕ = highFirst numberWidth (c .number) in
     let remark : List ℕ = optionalBytes remarkWidth (c .remark) in
-    omega (arith, length-append (highFirst numberWidth (c .number)) (c .source ∷ c .destination ∷ remark), high-long numberWidth (c .number))
+    let account : List ℕ = optionalBytes accountWidth (c .account) in
+    omega (
+      arith,
+      length-append number (c .source ∷ c .destination ∷ (remark ++ account)),
+      length-append remark account,
+      high-long numberWidth (c .number),
+    )
 
 -- a record takes a byte more than its circuits, and an unlit place none
 pub unlit-long : (s : Slot) → s ≡ unlit → 0 + bit (isLit s) ≡ length (recordBytes s)

@@ -14,13 +14,14 @@ use Rattle.buffer.proofs.Chain.{Putting, start, first, then, done}
 use Rattle.form.specs.Form.{present, fieldBits, fieldMap, circuitBytes, recordBytes}
 
 -- the field map, from the bits of its fields
-pub alone-map : (a : Circuit) (n : ℕ) → n ≡ bit (present (a .remark)) → n ≡ fieldMap (fieldBits (alone a))
+pub alone-map : (a : Circuit) (n x : ℕ) → n ≡ bit (present (a .remark)) → x ≡ bit (present (a .account)) → n + 8 * x ≡ fieldMap (fieldBits (alone a))
 unfolding fieldMap word
-alone-map a n e = omega (arith, e)
+alone-map a n x e f = omega (arith, e, f)
 
-pub shared-map : (a b : Circuit) (n m : ℕ) → n ≡ bit (present (a .remark)) → m ≡ bit (present (b .remark)) → n + 2 + 4 * m ≡ fieldMap (fieldBits (shared a b))
+pub shared-map : (a b : Circuit) (n m x y : ℕ) → n ≡ bit (present (a .remark)) → m ≡ bit (present (b .remark)) → x ≡ bit (present (a .account)) → y ≡ bit (present (b .account))
+    → n + 4 * m + 2 + 8 * (x + 2 * y) ≡ fieldMap (fieldBits (shared a b))
 unfolding fieldMap word
-shared-map a b n m e g = omega (arith, e, g)
+shared-map a b n m x y e g f h = omega (arith, e, g, f, h)
 
 -- a record of one circuit
 module _ (a : Circuit) (m : ℕ) (g : m ≡ fieldMap (fieldBits (alone a))) (l : List ℕ) (i : ℕ) (h : Room l i (recordBytes (alone a))) where

@@ -9,7 +9,8 @@ ghost use lib.ListN.{length};
 ghost use Rattle.basis.specs.Choice.{bit};
 ghost use Rattle.slots.specs.Slot.{isLit};
 ghost use Rattle.buffer.specs.Put.{Room, Put};
-ghost use Rattle.form.specs.Form.{circuitMost, fieldBits, fieldMap, recordBytes};
+ghost use Rattle.form.specs.Form.{fieldBits, fieldMap, recordBytes};
+ghost use Rattle.form.specs.Most.{circuitMost};
 use lightpath::Circuit;
 use slots::Slot;
 
@@ -28,14 +29,16 @@ pub fn slot_length(slot: Slot) -> usize
 fn alone_map(a: Circuit) -> u8
     ensures { λ r. ⌜ r ≡ fieldMap (fieldBits (Slot.Alone a)) ⌝ }
 {
-    optional::present(a.remark as u32)
+    optional::present(a.remark as u32) + 8 * optional::present(a.account)
 }
 
 // The field map of a place with two circuits.
 fn shared_map(a: Circuit, b: Circuit) -> u8
     ensures { λ r. ⌜ r ≡ fieldMap (fieldBits (Slot.Shared a b)) ⌝ }
 {
-    optional::present(a.remark as u32) + 2 + 4 * optional::present(b.remark as u32)
+    let remarks = optional::present(a.remark as u32) + 4 * optional::present(b.remark as u32);
+    let accounts = optional::present(a.account) + 2 * optional::present(b.account);
+    remarks + 2 + 8 * accounts
 }
 
 // Writes the record of a place with one circuit.

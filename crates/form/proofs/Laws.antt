@@ -33,7 +33,7 @@ read-number s = go (readTable s)
     go (got t r) = refl
     go (fault n) = refl
 
-granted-holds : (P : RingTable → List ℕ → Type 0) (f : Field RingTable) → Holds P f → answeredBy f .verdict ≡ granted → (r : List ℕ) × P (answeredBy f .table) r
+pub granted-holds : (P : RingTable → List ℕ → Type 0) (f : Field RingTable) → Holds P f → answeredBy f .verdict ≡ granted → (r : List ℕ) × P (answeredBy f .table) r
 granted-holds P (got t r) h e = (r, h)
 granted-holds P (fault n) h e = let z : _≡_ {A = ℕ} 0 1 = cc in absurd (omega arith)
 

@@ -17,7 +17,8 @@ use Rattle.ring.specs.Table.{meetsRules}
 use Rattle.ring.specs.declared.RingTable.{RingTable}
 use Rattle.ring.proofs.TableRules.{table-rules, table-limits}
 use Rattle.form.specs.Bytes.{highFirst}
-use Rattle.form.specs.Form.{mapBytes, present, optionalBytes, numberWidth, remarkWidth, mapWidth, longestForm, circuitMost, circuitBytes, recordBytes, recordsBytes, portsBytes, formOf}
+use Rattle.form.specs.Form.{mapBytes, present, optionalBytes, numberWidth, remarkWidth, accountWidth, mapWidth, longestForm, circuitBytes, recordBytes, recordsBytes, portsBytes, formOf}
+use Rattle.form.specs.Most.{circuitMost}
 use Rattle.form.proofs.MapBytes.{map-long}
 use Rattle.form.proofs.Numbers.{high-long}
 
@@ -36,7 +37,15 @@ unfolding circuitBytes
 circuit-most c =
     let number : List ℕ = highFirst numberWidth (c .number) in
     let remark : List ℕ = optionalBytes remarkWidth (c .remark) in
-    omega (arith, length-append number (c .source ∷ c .destination ∷ remark), high-long numberWidth (c .number), optional-most remarkWidth (c .remark))
+    let account : List ℕ = optionalBytes accountWidth (c .account) in
+    omega (
+      arith,
+      length-append number (c .source ∷ c .destination ∷ (remark ++ account)),
+      length-append remark account,
+      high-long numberWidth (c .number),
+      optional-most remarkWidth (c .remark),
+      optional-most accountWidth (c .account),
+    )
 
 -- a record one more than its circuits
 record-most : (s : Slot) → length (recordBytes s) ≤ 1 + circuitMost * length (held s)
@@ -65,7 +74,7 @@ form-length t h =
       map-long (litAt (t .channels)) mapWidth 0,
     )
 
--- at most 1,745 bytes
+-- at most 2,513 bytes
 pub form-most : (t : RingTable) → meetsRules t ≡ true → length (formOf t) ≤ longestForm
 form-most t m =
     let l = table-limits t m in

@@ -1,6 +1,6 @@
 -- What is written is read back: a circuit, a record, the records. Assumes nothing.
 use Prim.Native.Nat.{ℕ, suc, _+_, _<_}
-use mathlib.Core.Path.{_≡_, refl, sym, ap}
+use mathlib.Core.Path.{_≡_, refl, sym, ap, _∙_}
 use mathlib.Core.Bool.{Bool, true, false, not}
 use mathlib.Core.List.{List, [], _∷_, _++_, append-assoc}
 use native.Mathlib.Nat.{add-zero, add-suc, suc-add}
@@ -14,11 +14,12 @@ use Rattle.lightpath.specs.declared.Circuit.{Circuit}
 use Rattle.slots.specs.declared.Slot.{Slot}
 use Rattle.slots.specs.declared.Slot.the-variants.{Unlit as unlit, Alone as alone, Shared as shared}
 use Rattle.slots.specs.Slot.{isLit}
+use Rattle.lit_words.specs.Lit.{bitOf}
 use Rattle.channels.specs.Channels.{Channels, litAt}
 use Rattle.form.specs.Bytes.{highFirst}
-use Rattle.form.specs.Form.{present, optionalBytes, numberWidth, remarkWidth, circuitBytes, fieldBits, fieldMap, recordBytes, recordsBytes}
+use Rattle.form.specs.Form.{present, optionalBytes, numberWidth, remarkWidth, accountWidth, circuitBytes, fieldBits, fieldMap, recordBytes, recordsBytes}
 use Rattle.form.specs.Reader.{got, Reader, bytes}
-use Rattle.form.specs.Reading.{readOptional, readCircuit, readSecond, readRecord, readPlaceBy, readRecordsBy}
+use Rattle.form.specs.Reading.{readOptional, readCircuit, mapHolds, readSecond, readRecord, readPlaceBy, readRecordsBy}
 use Rattle.form.proofs.Numbers.{high-long, high-number}
 use Rattle.form.proofs.FieldMap.{map-bit, field-map-holds}
 
@@ -35,15 +36,29 @@ optional-read k v s false e = rw (e, bytes-back (highFirst (suc k) v) s (suc k) 
 optional-back : (k v : ℕ) (s : List ℕ) → readOptional (suc k) (present v) (optionalBytes (suc k) v ++ s) ≡ got v s
 optional-back k v s = optional-read k v s (eqb v 0) refl
 
--- a circuit is
-circuit-back : (c : Circuit) (s : List ℕ) → readCircuit (present (c .remark)) (circuitBytes c ++ s) ≡ got c s
-unfolding readCircuit circuitBytes
-circuit-back c s =
+-- the bytes of a circuit and those after it: number, source, destination, remark, account
+pub in-order : (c : Circuit) (s : List ℕ)
+    → circuitBytes c ++ s
+    ≡ highFirst numberWidth (c .number) ++ (c .source ∷ c .destination ∷ (optionalBytes remarkWidth (c .remark) ++ (optionalBytes accountWidth (c .account) ++ s)))
+unfolding circuitBytes
+in-order c s =
     let number : List ℕ = highFirst numberWidth (c .number) in
+    let remark : List ℕ = optionalBytes remarkWidth (c .remark) in
+    let account : List ℕ = optionalBytes accountWidth (c .account) in
+    append-assoc number (c .source ∷ c .destination ∷ (remark ++ account)) s
+    ∙ ap (λ (r : List ℕ). number ++ (c .source ∷ c .destination ∷ r)) (append-assoc remark account s)
+
+-- a circuit is read back
+circuit-back : (c : Circuit) (s : List ℕ) → readCircuit (present (c .remark)) (present (c .account)) (circuitBytes c ++ s) ≡ got c s
+unfolding readCircuit
+circuit-back c s =
+    let account : List ℕ = optionalBytes accountWidth (c .account) in
+    let fields : List ℕ = optionalBytes remarkWidth (c .remark) ++ (account ++ s) in
     rw (
-      append-assoc,
-      bytes-back number (c .source ∷ c .destination ∷ optionalBytes remarkWidth (c .remark) ++ s) numberWidth (high-long numberWidth (c .number)),
-      optional-back 1 (c .remark) s,
+      in-order c s,
+      bytes-back (highFirst numberWidth (c .number)) (c .source ∷ c .destination ∷ fields) numberWidth (high-long numberWidth (c .number)),
+      optional-back 1 (c .remark) (account ++ s),
+      optional-back 3 (c .account) s,
       high-number 3 (c .number),
     )
 
@@ -52,20 +67,23 @@ alone-back : (a : Circuit) (s : List ℕ) → readRecord (fieldMap (fieldBits (a
 unfolding readRecord readSecond
 alone-back a s =
     let bits : List Bool = fieldBits (alone a) in
-    rw (field-map-holds (present (a .remark)) false false refl, map-bit bits 0 (omega arith), map-bit bits 1 (omega arith), circuit-back a s)
+    let holds : mapHolds (fieldMap bits) ≡ true = field-map-holds (present (a .remark)) false false (present (a .account)) false refl in
+    let remark : bitOf (fieldMap bits) 0 ≡ present (a .remark) = map-bit bits 0 (omega arith) in
+    let second : bitOf (fieldMap bits) 1 ≡ false = map-bit bits 1 (omega arith) in
+    let account : bitOf (fieldMap bits) 3 ≡ present (a .account) = map-bit bits 3 (omega arith) in
+    rw (holds, remark, second, account, circuit-back a s)
 
 shared-back : (a b : Circuit) (s : List ℕ) → readRecord (fieldMap (fieldBits (shared a b)) ∷ circuitBytes a ++ (circuitBytes b ++ s)) ≡ got (shared a b) s
 unfolding readRecord readSecond
 shared-back a b s =
     let bits : List Bool = fieldBits (shared a b) in
-    rw (
-      field-map-holds (present (a .remark)) true (present (b .remark)) refl,
-      map-bit bits 0 (omega arith),
-      map-bit bits 1 (omega arith),
-      map-bit bits 2 (omega arith),
-      circuit-back a (circuitBytes b ++ s),
-      circuit-back b s,
-    )
+    let first-remark : bitOf (fieldMap bits) 0 ≡ present (a .remark) = map-bit bits 0 (omega arith) in
+    let second : bitOf (fieldMap bits) 1 ≡ true = map-bit bits 1 (omega arith) in
+    let second-remark : bitOf (fieldMap bits) 2 ≡ present (b .remark) = map-bit bits 2 (omega arith) in
+    let first-account : bitOf (fieldMap bits) 3 ≡ present (a .account) = map-bit bits 3 (omega arith) in
+    let second-account : bitOf (fieldMap bits) 4 ≡ present (b .account) = map-bit bits 4 (omega arith) in
+    let holds : mapHolds (fieldMap bits) ≡ true = field-map-holds (present (a .remark)) true (present (b .remark)) (present (a .account)) (present (b .account)) refl in
+    rw (holds, first-remark, second, second-remark, first-account, second-account, circuit-back a (circuitBytes b ++ s), circuit-back b s)
 
 -- what a place holds is read back by `one`
 abbrev pub PlaceBack : Reader Slot → Slot → Type 0

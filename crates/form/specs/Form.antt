@@ -28,27 +28,27 @@ present v = not (eqb v 0)
 unfoldable pub optionalBytes : ℕ → ℕ → List ℕ
 optionalBytes width v = pick (present v) (highFirst width v) []
 
--- the number is four bytes, the remark two
+-- how many bytes a number, a remark and an account have
 abbrev pub numberWidth : ℕ
 numberWidth = 4
 
 abbrev pub remarkWidth : ℕ
 remarkWidth = 2
 
+abbrev pub accountWidth : ℕ
+accountWidth = 4
+
 -- each circuit's number (four bytes, highest first), source, destination (one byte each), and its optional fields: the remark (two bytes,
--- highest first)
+-- highest first); the account follows the circuit's remark, four bytes, highest first (02, E2)
 unfoldable pub circuitBytes : Circuit → List ℕ
-circuitBytes c = highFirst numberWidth (c .number) ++ (c .source ∷ c .destination ∷ optionalBytes remarkWidth (c .remark))
+circuitBytes c = highFirst numberWidth (c .number) ++ (c .source ∷ c .destination ∷ (optionalBytes remarkWidth (c .remark) ++ optionalBytes accountWidth (c .account)))
 
--- so at most
-abbrev pub circuitMost : ℕ
-circuitMost = numberWidth + 2 + remarkWidth
-
--- the field map: bit 0 first circuit has a remark, bit 1 second circuit present, bit 2 second has a remark, others zero
+-- the field map: bit 0 first circuit has a remark, bit 1 second circuit present, bit 2 second has a remark, bit 3 first has an account,
+-- bit 4 second has one (02, E2), others zero
 abbrev pub fieldBits : Slot → List Bool
 fieldBits unlit = []
-fieldBits (alone a) = present (a .remark) ∷ false ∷ false ∷ []
-fieldBits (shared a b) = present (a .remark) ∷ true ∷ present (b .remark) ∷ []
+fieldBits (alone a) = present (a .remark) ∷ false ∷ false ∷ present (a .account) ∷ false ∷ []
+fieldBits (shared a b) = present (a .remark) ∷ true ∷ present (b .remark) ∷ present (a .account) ∷ present (b .account) ∷ []
 
 -- the byte of some bits, 0 the lowest; those after them are zero
 unfoldable pub fieldMap : List Bool → ℕ
@@ -77,6 +77,6 @@ mapWidth = 16
 unfoldable pub formOf : RingTable → List ℕ
 formOf t = t .nodes ∷ (portsBytes t ++ (mapBytes (litAt (t .channels)) mapWidth 0 ++ recordsBytes (t .channels)))
 
--- at most 1,745 bytes
+-- at most 2,513 bytes (02, E2)
 abbrev pub longestForm : ℕ
-longestForm = 1745
+longestForm = 2513

@@ -22,7 +22,7 @@ use Rattle.ring.specs.Table.{meetsRules, blankTable, freshTable, withChannels}
 use Rattle.ring.specs.declared.RingTable.{RingTable}
 use Rattle.ring.specs.declared.Answered.{Answered}
 use Rattle.form.specs.Bytes.{numberIn}
-use Rattle.form.specs.Form.{present, numberWidth, remarkWidth, mapWidth}
+use Rattle.form.specs.Form.{present, numberWidth, remarkWidth, accountWidth, mapWidth}
 use Rattle.form.specs.Reader.{Field, got, fault, Reader, _>>=_, _>>_, give, _unless_, byte, bytes, end}
 
 -- N, then the ports of its nodes
@@ -54,24 +54,25 @@ readOptional width true = do
   no-31 unless present (numberIn v)
   give (numberIn v)
 
--- number, source, destination, and the optional fields whose bits stand: the remark
-unfoldable pub readCircuit : Bool → Reader Circuit
-readCircuit remarked = do
+-- number, source, destination, and the optional fields whose bits stand: the remark, the account
+unfoldable pub readCircuit : Bool → Bool → Reader Circuit
+readCircuit remarked billed = do
   n ← bytes numberWidth
   source ← byte
   destination ← byte
   remark ← readOptional remarkWidth remarked
-  give (record { number = numberIn n; source = source; destination = destination; remark = remark })
+  account ← readOptional accountWidth billed
+  give (record { number = numberIn n; source = source; destination = destination; remark = remark; account = account })
 
--- bits 3 to 7 are zero, and bit 2 doesn't stand without bit 1
+-- bits 5 to 7 are zero, and bits 2 and 4 don't stand without bit 1 (02, E2)
 unfoldable pub mapHolds : ℕ → Bool
-mapHolds m = ltb m 8 && (bitOf m 1 || not (bitOf m 2))
+mapHolds m = ltb m 32 && (bitOf m 1 || not (bitOf m 2 || bitOf m 4))
 
 -- the second circuit, where there is one
-unfoldable pub readSecond : Circuit → Bool → Bool → Reader Slot
-readSecond a false remarked = give (alone a)
-readSecond a true remarked = do
-  b ← readCircuit remarked
+unfoldable pub readSecond : Circuit → Bool → Bool → Bool → Reader Slot
+readSecond a false remarked billed = give (alone a)
+readSecond a true remarked billed = do
+  b ← readCircuit remarked billed
   give (shared a b)
 
 -- the field map, which passes the test `holds`, then each circuit
@@ -79,8 +80,8 @@ abbrev pub readRecordBy : (ℕ → Bool) → Reader Slot
 readRecordBy holds = do
   m ← byte
   no-31 unless holds m
-  a ← readCircuit (bitOf m 0)
-  readSecond a (bitOf m 1) (bitOf m 2)
+  a ← readCircuit (bitOf m 0) (bitOf m 3)
+  readSecond a (bitOf m 1) (bitOf m 2) (bitOf m 4)
 
 unfoldable pub readRecord : Reader Slot
 readRecord = readRecordBy mapHolds

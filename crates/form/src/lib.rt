@@ -20,8 +20,11 @@ pub const PLAIN_WIDTH: usize = NUMBER_WIDTH + 2;
 // The bytes of a remark.
 pub const REMARK_WIDTH: usize = 2;
 
+// The bytes of an account.
+pub const ACCOUNT_WIDTH: usize = 4;
+
 // The most bytes that a form takes.
-pub const LONGEST_FORM: usize = 1745;
+pub const LONGEST_FORM: usize = 2513;
 
 // So many bytes have room for the form of every table that meets the ring rules.
 pub fn longest_form() -> usize

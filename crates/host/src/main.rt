@@ -143,15 +143,16 @@ fn make_ring(nodes: u8, ports: &[u8]) -> RingTable {
     table
 }
 
-// A circuit without a remark.
+// A circuit without a remark and without an account.
 fn circuit(number: u32, source: u8, destination: u8) -> Circuit
-    ensures { λ r. ⌜ r ≡ record { number = number; source = source; destination = destination; remark = 0 } ⌝ }
+    ensures { λ r. ⌜ r ≡ record { number = number; source = source; destination = destination; remark = 0; account = 0 } ⌝ }
 {
     Circuit {
         number,
         source,
         destination,
         remark: 0,
+        account: 0,
     }
 }
 

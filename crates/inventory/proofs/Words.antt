@@ -81,10 +81,10 @@ pub ruleset lines = (read-made, read-refused, length-line, one-load, link-circui
 -- a circuit's line is printed in two parts
 module _ (l : List ℕ) (at : ℕ) (c : Circuit) (place : ℕ) (l1 : List ℕ) (i : ℕ)
     (p : Printed (filledRoom (bytes "circuit # from # to # remark #")) l at (filled (bytes "circuit # from # to # remark #") (c .number) (c .source) (c .destination) (c .remark)) l1 i) where
-  pub circuit-room : at + circuitLineRoom ≤ length l → i + filledRoom (bytes " place #\n") ≤ length l1
+  pub circuit-room : at + circuitLineRoom ≤ length l → i + filledRoom (bytes " account # place #\n") ≤ length l1
   circuit-room h = omega (arith, p .short, put-length (p .put))
 
-  pub circuit-put : (l2 : List ℕ) (j : ℕ) → Printed (filledRoom (bytes " place #\n")) l1 i (filled (bytes " place #\n") place 0 0 0) l2 j → Printed circuitLineRoom l at (circuitLine place c) l2 j
+  pub circuit-put : (l2 : List ℕ) (j : ℕ) → Printed (filledRoom (bytes " account # place #\n")) l1 i (filled (bytes " account # place #\n") (c .account) place 0 0) l2 j → Printed circuitLineRoom l at (circuitLine place c) l2 j
   unfolding filled piece circuitLine
   circuit-put l2 j q = record { put = simp (append-assoc, append-nil) at (put-put (p .put) (q .put)); short = omega (arith, p .short, q .short) }
 

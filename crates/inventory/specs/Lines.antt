@@ -46,10 +46,18 @@ linkLine a =
     (pick (eqb a noCircuit) (bytes "link none\n")
     (lineOf (("link refused ", a % 256) ∷ [])))
 
--- `circuit NUMBER from SOURCE to DESTINATION remark REMARK place PLACE`
+-- `circuit NUMBER from SOURCE to DESTINATION remark REMARK account ACCOUNT place PLACE`
 unfoldable pub circuitLine : ℕ → Circuit → List ℕ
 circuitLine p c =
-    lineOf (("circuit ", c .number) ∷ (" from ", c .source) ∷ (" to ", c .destination) ∷ (" remark ", c .remark) ∷ (" place ", p) ∷ [])
+    lineOf (
+    ("circuit ", c .number)
+    ∷ (" from ", c .source)
+    ∷ (" to ", c .destination)
+    ∷ (" remark ", c .remark)
+    ∷ (" account ", c .account)
+    ∷ (" place ", p)
+    ∷ []
+    )
 
 -- a line for each circuit of place p, the lower number first
 unfoldable pub circuitLines : ℕ → List Circuit → List ℕ
@@ -91,7 +99,7 @@ linkRoom = filledRoom (bytes "link circuit #\n")
 
 -- one circuit, those of a place, those of all places
 abbrev pub circuitLineRoom : ℕ
-circuitLineRoom = filledRoom (bytes "circuit # from # to # remark # place #\n")
+circuitLineRoom = filledRoom (bytes "circuit # from # to # remark # account # place #\n")
 
 abbrev pub placeRoom : ℕ
 placeRoom = 2 * circuitLineRoom

@@ -97,7 +97,7 @@ pub fn put_link(out: &mut [u8], at: usize, answer: u64) -> usize
     print::put_filled(out, at, b"link refused #\n", (answer % 256) as u32, 0, 0, 0)
 }
 
-// `circuit NUMBER from SOURCE to DESTINATION remark REMARK place PLACE`.
+// `circuit NUMBER from SOURCE to DESTINATION remark REMARK account ACCOUNT place PLACE`.
 fn put_circuit(out: &mut [u8], at: usize, circuit: Circuit, place: u32) -> usize
     requires { ⌜ at + circuitLineRoom ≤ length (now out) ⌝ }
     ensures { λ r. ⌜ Printed circuitLineRoom (now (out .entry)) at (circuitLine place circuit) (now (out .exit)) r ⌝ }
@@ -111,7 +111,15 @@ fn put_circuit(out: &mut [u8], at: usize, circuit: Circuit, place: u32) -> usize
         circuit.destination as u32,
         circuit.remark as u32,
     );
-    print::put_filled(out, next, b" place #\n", place, 0, 0, 0)
+    print::put_filled(
+        out,
+        next,
+        b" account # place #\n",
+        circuit.account,
+        place,
+        0,
+        0,
+    )
 }
 
 // The lines of the circuits of a place, the lower number first.

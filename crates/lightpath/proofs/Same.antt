@@ -11,4 +11,5 @@ same-circuit a b h =
       source = h (λ c. c .source) i;
       destination = h (λ c. c .destination) i;
       remark = h (λ c. c .remark) i;
+      account = h (λ c. c .account) i;
     }

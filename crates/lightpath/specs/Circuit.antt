@@ -11,7 +11,7 @@ pub use Rattle.lightpath.specs.declared.Circuit.{Circuit}
 
 -- all fields zero
 abbrev pub blankCircuit : Circuit
-blankCircuit = record { number = 0; source = 0; destination = 0; remark = 0 }
+blankCircuit = record { number = 0; source = 0; destination = 0; remark = 0; account = 0 }
 
 -- a node is on the ring when it is 1 to N
 abbrev pub onRing : ℕ → ℕ → Bool

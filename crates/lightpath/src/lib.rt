@@ -19,12 +19,13 @@ pub struct Wavelength(pub u8);
 // A directed wavelength number, which document 01 calls a place: it counts both directions.
 pub struct Place(pub u8);
 
-// A circuit from one node to another. Several may join the same nodes; a remark of 0 is none.
+// A circuit from one node to another. Several may join the same nodes; a remark of 0 is none, and so is an account of 0.
 pub struct Circuit {
     pub number: u32,
     pub source: u8,
     pub destination: u8,
     pub remark: u16,
+    pub account: u32,
 }
 
 // A circuit with all fields zero.
@@ -33,6 +34,7 @@ pub const BLANK_CIRCUIT: Circuit = Circuit {
     source: 0,
     destination: 0,
     remark: 0,
+    account: 0,
 };
 
 impl Direction {

@@ -28,8 +28,8 @@ numberOf NoDirection = 17
 numberOf ShortList = 20
 numberOf ShortBuffer = 21
 numberOf BrokenRule = 22
--- the sender of a saved form, beside 1 to 3: a field ends early; a map bit at 2 × W or above, a field map bit 3 to 7 set, bit 2 without
--- bit 1, or a written remark of 0; bytes after the last record; a ring rule broken
+-- the sender of a saved form, beside 1 to 3: a field ends early; a map bit at 2 × W or above, a field map bit 5 to 7 set, bit 2 or 4 without
+-- bit 1, or a written remark or account of 0 (02, E2); bytes after the last record; a ring rule broken
 numberOf CutShort = 30
 numberOf BadField = 31
 numberOf TrailingBytes = 32

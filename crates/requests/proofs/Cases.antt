@@ -11,21 +11,23 @@ use Rattle.words.specs.Split.{wordsAfter}
 use Rattle.requests.specs.Line.{plainLine, bad, ring, field, portsAfter, parseRing, parseOpen, parseClose, parseWords, parseLine}
 
 -- the request for a circuit
-abbrev opening : ℕ → ℕ → ℕ → ℕ → Line
-opening number source destination remark = plainLine (Open (record { number = number; source = source; destination = destination; remark = remark }))
+abbrev opening : ℕ → ℕ → ℕ → ℕ → ℕ → Line
+opening number source destination remark account =
+    plainLine (Open (record { number = number; source = source; destination = destination; remark = remark; account = account }))
 
 abbrev cases : List (List ℕ × Line)
 cases =
     (bytes "ring 5 1 1 1 1 1", ring 5 (1 ∷ 1 ∷ 1 ∷ 1 ∷ 1 ∷ []))
-    ∷ (bytes "open 11 1 5 0", opening 11 1 5 0)
+    ∷ (bytes "open 11 1 5 0 0", opening 11 1 5 0 0)
     ∷ (bytes "close 13", plainLine (Close 13))
     -- leading zeros are allowed, and too wide goes by the value
-    ∷ (bytes "open 00011 01 05 00", opening 11 1 5 0)
-    ∷ (bytes "open 4294967295 255 000255 65535", opening 4294967295 255 255 65535)
-    ∷ (bytes "open 4294967296 1 5 0", bad)
-    ∷ (bytes "open 11 256 5 0", bad)
-    ∷ (bytes "open 11 1 00000000256 0", bad)
-    ∷ (bytes "open 11 1 5 65536", bad)
+    ∷ (bytes "open 00011 01 05 00 0007", opening 11 1 5 0 7)
+    ∷ (bytes "open 4294967295 255 000255 65535 4294967295", opening 4294967295 255 255 65535 4294967295)
+    ∷ (bytes "open 4294967296 1 5 0 0", bad)
+    ∷ (bytes "open 11 256 5 0 0", bad)
+    ∷ (bytes "open 11 1 00000000256 0 0", bad)
+    ∷ (bytes "open 11 1 5 65536 0", bad)
+    ∷ (bytes "open 11 1 5 0 4294967296", bad)
     ∷ (bytes "ring 256", bad)
     ∷ (bytes "ring 2 300", bad)
     ∷ (bytes "ring 2 65 0", ring 2 (65 ∷ 0 ∷ []))
@@ -43,8 +45,9 @@ cases =
     ∷ (bytes "close +13", bad)
     ∷ (bytes "Close 13", bad)
     ∷ (bytes "closed 13", bad)
-    ∷ (bytes "open 11 1 5", bad)
-    ∷ (bytes "open 11 1 5 0 0", bad)
+    -- five numbers, no fewer and no more
+    ∷ (bytes "open 11 1 5 0", bad)
+    ∷ (bytes "open 11 1 5 0 0 0", bad)
     -- 256 bytes are a line, 257 none; a number of 250 digits is too wide
     ∷ (bytes "close " ++ (replicate 249 48 ++ bytes "7"), plainLine (Close 7))
     ∷ (bytes "close " ++ (replicate 250 48 ++ bytes "7"), bad)

@@ -75,7 +75,7 @@ module _ (most : ℕ) where
   few-words (w ∷ ws) h =
       few-pick (sameText w (bytes "ring")) _ _ (few-field 8 ws _ (λ n vs s. few-ports n [] vs (omega arith)))
       (few-pick (sameText w (bytes "open")) _ _
-      (few-field 32 ws _ (λ n vs s. few-field 8 vs _ (λ n vs s. few-field 8 vs _ (λ n vs s. few-field 16 vs _ (λ n vs s. few-end vs _ tt)))))
+      (few-field 32 ws _ (λ n vs s. few-field 8 vs _ (λ n vs s. few-field 8 vs _ (λ n vs s. few-field 16 vs _ (λ n vs s. few-field 32 vs _ (λ n vs s. few-end vs _ tt))))))
       (few-pick (sameText w (bytes "close")) _ _ (few-field 32 ws _ (λ n vs s. few-end vs _ tt)) tt))
 
 -- a line's ports take no more than the line

@@ -1,2 +1,3 @@
 -- What a line asks for.
 pub mod Line
+pub mod Details

@@ -58,14 +58,16 @@ portsAfter n ks (w ∷ ws) = given (number (2 ^ 8) w) (λ k. portsAfter n (ks ++
 unfoldable pub parseRing : List (List ℕ) → Line
 parseRing ws = field 8 ws (λ n ws. portsAfter n [] ws)
 
--- "`open number source destination remark`", nodes of 8 bits, a number of 32 and a remark of 16
+-- "`open number source destination remark`", nodes of 8 bits, a number of 32 and a remark of 16; the account, of 32, is the last number
+-- (02, E2)
 unfoldable pub parseOpen : List (List ℕ) → Line
 parseOpen ws =
     field 32 ws (λ number ws.
     field 8 ws (λ source ws.
     field 8 ws (λ destination ws.
     field 16 ws (λ remark ws.
-    atEnd ws (plainLine (Open (record { number = number; source = source; destination = destination; remark = remark })))))))
+    field 32 ws (λ account ws.
+    atEnd ws (plainLine (Open (record { number = number; source = source; destination = destination; remark = remark; account = account }))))))))
 
 -- "`close number`"
 unfoldable pub parseClose : List (List ℕ) → Line

@@ -4,6 +4,7 @@ ghost use Prim.Native.Nat.{_≤_};
 ghost use lib.ListN.{length, drop};
 ghost use Rattle.words.specs.Split.{otherWords};
 ghost use Rattle.requests.specs.Line.{longestLine, plainLine, atEnd, parseRing, parseOpen, parseClose, parseLine};
+ghost use Rattle.requests.specs.Details.{parseDetails};
 use lightpath::Circuit;
 use words::Field;
 use words::MOST_U8;
@@ -76,7 +77,29 @@ fn parse_ring(line: &[u8], at: usize) -> Line
     }
 }
 
-// `open number source destination remark`, after its first word.
+// The last two numbers of an opening: the remark and the account.
+fn parse_details(line: &[u8], at: usize, number: u32, source: u8, destination: u8) -> Line
+    ensures { λ r. ⌜ r ≡ parseDetails number source destination (otherWords (drop at (now (line .entry)))) ⌝ }
+{
+    let Field::Read(remark, a) = words::read_field(line, at, MOST_U16) else {
+        return plain(Request::Bad);
+    };
+    let Field::Read(account, end) = words::read_field(line, a, MOST_U32) else {
+        return plain(Request::Bad);
+    };
+    let remark = remark as u16;
+    let account = account as u32;
+    let circuit = Circuit {
+        number,
+        source,
+        destination,
+        remark,
+        account,
+    };
+    at_end(line, end, Request::Open { circuit })
+}
+
+// `open number source destination remark account`, after its first word.
 fn parse_open(line: &[u8], at: usize) -> Line
     ensures { λ r. ⌜ r ≡ parseOpen (otherWords (drop at (now (line .entry)))) ⌝ }
 {
@@ -89,20 +112,10 @@ fn parse_open(line: &[u8], at: usize) -> Line
     let Field::Read(destination, c) = words::read_field(line, b, MOST_U8) else {
         return plain(Request::Bad);
     };
-    let Field::Read(remark, end) = words::read_field(line, c, MOST_U16) else {
-        return plain(Request::Bad);
-    };
     let number = number as u32;
     let source = source as u8;
     let destination = destination as u8;
-    let remark = remark as u16;
-    let circuit = Circuit {
-        number,
-        source,
-        destination,
-        remark,
-    };
-    at_end(line, end, Request::Open { circuit })
+    parse_details(line, c, number, source, destination)
 }
 
 // `close number`, after its first word.

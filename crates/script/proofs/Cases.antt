@@ -29,14 +29,14 @@ lines (s ∷ ss) = bytes s ++ (10 ∷ lines ss)
 abbrev script : List String
 script =
     "ring 5 1 1 1 1 1"
-    ∷ "open 11 1 5 0"
-    ∷ "open 12 2 3 0"
-    ∷ "open 13 4 1 0"
-    ∷ "open 14 3 2 0"
-    ∷ "open 15 5 4 0"
-    ∷ "open 16 1 2 0"
+    ∷ "open 11 1 5 0 0"
+    ∷ "open 12 2 3 0 0"
+    ∷ "open 13 4 1 0 0"
+    ∷ "open 14 3 2 0 0"
+    ∷ "open 15 5 4 0 0"
+    ∷ "open 16 1 2 0 0"
     ∷ "close 13"
-    ∷ "open 16 4 1 0"
+    ∷ "open 16 4 1 0 0"
     ∷ []
 
 abbrev output : List String
@@ -56,11 +56,11 @@ output =
 abbrev moving : List String
 moving =
     "ring 5 1 1 1 1 1"
-    ∷ "open 21 5 4 0"
-    ∷ "open 22 1 2 0"
-    ∷ "open 23 4 1 0"
-    ∷ "open 24 2 3 0"
-    ∷ "open 25 3 5 0"
+    ∷ "open 21 5 4 0 0"
+    ∷ "open 22 1 2 0 0"
+    ∷ "open 23 4 1 0 0"
+    ∷ "open 24 2 3 0 0"
+    ∷ "open 25 3 5 0 0"
     ∷ []
 
 abbrev moved : List String
@@ -87,12 +87,14 @@ cases =
     ∷ (bytes "ring 3 1 1 1", bytes "ring 3 wavelengths 1\n")
     ∷ (bytes "ring 3 1 1 1\nclose 7", bytes "ring 3 wavelengths 1\nclose refused 15\n")
     -- before the first accepted ring
-    ∷ (bytes "open 1 1 2 0\nclose 1\nring 2 1 1\nopen 1 1 2 0\n", bytes "line refused\nline refused\nring refused 1\nline refused\n")
+    ∷ (bytes "open 1 1 2 0 0\nclose 1\nring 2 1 1\nopen 1 1 2 0 0\n", bytes "line refused\nline refused\nring refused 1\nline refused\n")
     -- a refused ring keeps the old table, and an accepted one takes its place
-    ∷ (bytes "ring 3 1 1 1\nopen 1 1 2 0\nring 3 65 1 1\nclose 1\n", bytes "ring 3 wavelengths 1\nopen 1 place 0 moves 0 looks 0\nring refused 2\nclose 1\n")
-    ∷ (bytes "ring 3 1 1 1\nopen 1 1 2 0\nring 3 1 1 1\nclose 1\n", bytes "ring 3 wavelengths 1\nopen 1 place 0 moves 0 looks 0\nring 3 wavelengths 1\nclose refused 15\n")
+    ∷ (bytes "ring 3 1 1 1\nopen 1 1 2 0 0\nring 3 65 1 1\nclose 1\n", bytes "ring 3 wavelengths 1\nopen 1 place 0 moves 0 looks 0\nring refused 2\nclose 1\n")
+    ∷ (bytes "ring 3 1 1 1\nopen 1 1 2 0 0\nring 3 1 1 1\nclose 1\n", bytes "ring 3 wavelengths 1\nopen 1 place 0 moves 0 looks 0\nring 3 wavelengths 1\nclose refused 15\n")
+    -- an opening has five numbers; its account is not printed
+    ∷ (bytes "ring 3 1 1 1\nopen 1 1 2 0\nopen 1 1 2 0 4294967295\n", bytes "ring 3 wavelengths 1\nline refused\nopen 1 place 0 moves 0 looks 0\n")
     -- leading zeros are read and not printed
-    ∷ (bytes "ring 003 01 001 1\nopen 0007 1 2 0\n", bytes "ring 3 wavelengths 1\nopen 7 place 0 moves 0 looks 0\n")
+    ∷ (bytes "ring 003 01 001 1\nopen 0007 1 2 0 0\n", bytes "ring 3 wavelengths 1\nopen 7 place 0 moves 0 looks 0\n")
     -- a line over 256 bytes is one refused line, and the next is run
     ∷ (replicate 257 48 ++ bytes "\nring 3 1 1 1\n", bytes "line refused\nring 3 wavelengths 1\n")
     ∷ []

@@ -25,7 +25,7 @@ pub fn answers(ports: &[u8], rows: &[Row]) -> Answers {
     let mut circuits = vec![format!("circuits {}", rows.len())];
     for (number, source, destination, place) in rows {
         circuits.push(format!(
-            "circuit {number} from {source} to {destination} remark 0 place {place}"
+            "circuit {number} from {source} to {destination} remark 0 account 0 place {place}"
         ));
         for link in walk(nodes, source, destination, place) {
             loads[2 * usize::from(link - 1) + usize::from(place % 2)] += 1;
@@ -87,7 +87,7 @@ pub const AFTER_107: [Row; 7] = [
 
 pub fn opening_107() -> Step {
     step(
-        "open 107 3 1 0",
+        "open 107 3 1 0 0",
         "open 107 place 4 moves 3 looks 4\nmove 102 from 1 to 0\nmove 101 from 0 to 1\n\
          move 105 from 4 to 1",
         Some(table(&FILLING_PORTS, &FILLED)),

@@ -14,7 +14,7 @@ const USAGE: &str =
     "usage: compare --program PATH --seeds A..B --lines N [--kind KIND] [--plan] [--complete]
   --seeds      one script for each seed from A to B, both included
   --lines      the lines of each script
-  --kind       small, large, mixed (if not given) or light
+  --kind       small, large, mixed (if not given), light or forms
   --plan       the program takes the planning program's lines, and scripts have every kind of them
   --complete   end with 1 where a kind of line, answer or refusal was never reached";
 

@@ -8,8 +8,8 @@ use ring::comparison::Expected;
 use ring::generator::{self, Kind};
 use ring::program::Program;
 
-const USAGE: &str =
-    "usage: generate --seed S --lines N [--kind small|large|mixed|light] [--plan] [--stats]
+const USAGE: &str = "usage: generate --seed S --lines N [--kind KIND] [--plan] [--stats]
+  --kind    small, large, mixed (if not given), light or forms
   --plan    lines of every kind that the planning program takes
   --stats   print how often each step and refusal comes, in place of the script";
 

@@ -25,6 +25,12 @@ pub enum Event {
     Step3bOld,
     /// 3b where the lowest place of the direction is shared, so that c lies higher.
     Step3bOverShared,
+    OpenedWithAccount,
+    OpenedWithWidestAccount,
+    /// A circuit with an account is moved, by an opening of so many moves.
+    MovedWithAccount {
+        moves: usize,
+    },
     Closed,
     ClosedOneOfTwo,
     RingAccepted,
@@ -39,6 +45,13 @@ pub enum Event {
     RefusedCr,
     RefusedNul,
     RefusedHighByte,
+    /// An opening of four numbers, as lines had before.
+    RefusedNoAccount,
+    RefusedWideAccount,
+    /// An opening whose last word is no number.
+    RefusedOddAccount,
+    /// An opening with a word after the account.
+    RefusedAfterAccount,
     RefusedWideNumber,
     RefusedOther,
     Exactly256Good,
@@ -47,12 +60,20 @@ pub enum Event {
     ReadBeforeRing,
     ReadReplaced,
     ReadWithRemark,
+    ReadWithAccount,
+    /// A form with circuits but no account, as forms were before.
+    ReadWithoutAccount,
     ReadWithPair,
     /// A form with a circuit and its return, which share in this direction.
     ReadWithReturn(Direction),
+    /// A form with a record of this field map.
+    ReadFieldMap(u8),
     ReadFault(Fault),
     ReadFailed,
     Written,
+    WrittenWithAccount,
+    /// A circuit with an account was moved before on this table.
+    WrittenAfterMove,
     WriteFailed,
     Load,
     LinkCircuit,
@@ -64,6 +85,8 @@ pub enum Event {
     LinkRefusedWide,
     Circuits,
     CircuitsNone,
+    CircuitsWithAccount,
+    CircuitsAfterMove,
     /// A line of this first word before there is a table.
     RefusedBeforeTable(&'static str),
     RefusedOddDigits,
@@ -76,7 +99,7 @@ pub enum Event {
 use Event::*;
 
 /// Every event that a script of the script program can show.
-pub const SCRIPT_EVENTS: [Event; 38] = [
+pub const SCRIPT_EVENTS: [Event; 47] = [
     Step1,
     Step1Return(Clockwise),
     Step1Return(Counterclockwise),
@@ -91,6 +114,11 @@ pub const SCRIPT_EVENTS: [Event; 38] = [
     Step3bWithNew,
     Step3bOld,
     Step3bOverShared,
+    OpenedWithAccount,
+    OpenedWithWidestAccount,
+    MovedWithAccount { moves: 1 },
+    MovedWithAccount { moves: 2 },
+    MovedWithAccount { moves: 3 },
     Closed,
     ClosedOneOfTwo,
     RingAccepted,
@@ -111,6 +139,10 @@ pub const SCRIPT_EVENTS: [Event; 38] = [
     RefusedCr,
     RefusedNul,
     RefusedHighByte,
+    RefusedNoAccount,
+    RefusedWideAccount,
+    RefusedOddAccount,
+    RefusedAfterAccount,
     RefusedWideNumber,
     RefusedOther,
     Exactly256Good,
@@ -118,22 +150,47 @@ pub const SCRIPT_EVENTS: [Event; 38] = [
 ];
 
 /// Every event that the other lines of the planning program can show.
-pub const PLAN_EVENTS: [Event; 44] = [
+pub const PLAN_EVENTS: [Event; 73] = [
     Read,
     ReadBeforeRing,
     ReadReplaced,
     ReadWithRemark,
+    ReadWithAccount,
+    ReadWithoutAccount,
     ReadWithPair,
     ReadWithReturn(Clockwise),
     ReadWithReturn(Counterclockwise),
+    ReadFieldMap(0b00000),
+    ReadFieldMap(0b00001),
+    ReadFieldMap(0b01000),
+    ReadFieldMap(0b01001),
+    ReadFieldMap(0b00010),
+    ReadFieldMap(0b00011),
+    ReadFieldMap(0b00110),
+    ReadFieldMap(0b00111),
+    ReadFieldMap(0b01010),
+    ReadFieldMap(0b01011),
+    ReadFieldMap(0b01110),
+    ReadFieldMap(0b01111),
+    ReadFieldMap(0b10010),
+    ReadFieldMap(0b10011),
+    ReadFieldMap(0b10110),
+    ReadFieldMap(0b10111),
+    ReadFieldMap(0b11010),
+    ReadFieldMap(0b11011),
+    ReadFieldMap(0b11110),
+    ReadFieldMap(0b11111),
     ReadFault(Fault::Ring(Refusal::RingSize)),
     ReadFault(Fault::Ring(Refusal::NodePorts)),
     ReadFault(Fault::Ring(Refusal::RingPorts)),
+    ReadFault(Fault::AccountCut),
     ReadFault(Fault::Cut),
     ReadFault(Fault::HighPlace),
     ReadFault(Fault::UnknownField),
     ReadFault(Fault::RemarkOfNone),
+    ReadFault(Fault::AccountOfNone),
     ReadFault(Fault::RemarkOfZero),
+    ReadFault(Fault::AccountOfZero),
     ReadFault(Fault::Tail),
     ReadFault(Fault::Rule(Rule::Ends)),
     ReadFault(Fault::Rule(Rule::Numbers)),
@@ -142,6 +199,8 @@ pub const PLAN_EVENTS: [Event; 44] = [
     ReadFault(Fault::Rule(Rule::Sharing)),
     ReadFailed,
     Written,
+    WrittenWithAccount,
+    WrittenAfterMove,
     WriteFailed,
     Load,
     LinkCircuit,
@@ -154,6 +213,8 @@ pub const PLAN_EVENTS: [Event; 44] = [
     LinkRefusedWide,
     Circuits,
     CircuitsNone,
+    CircuitsWithAccount,
+    CircuitsAfterMove,
     RefusedBeforeTable("write"),
     RefusedBeforeTable("load"),
     RefusedBeforeTable("link"),
@@ -184,6 +245,11 @@ impl fmt::Display for Event {
             Step3bWithNew => "step 3b, two moves",
             Step3bOld => "step 3b, three moves",
             Step3bOverShared => "  of 3b: the direction's lowest place is shared",
+            OpenedWithAccount => "opened with an account",
+            OpenedWithWidestAccount => "  of these: account 4294967295",
+            MovedWithAccount { moves } => {
+                return write!(f, "opened with moves {moves}, one of a circuit with an account")
+            }
             Closed => "closed",
             ClosedOneOfTwo => "  of these: one of two at a place",
             RingAccepted => "ring accepted",
@@ -198,7 +264,11 @@ impl fmt::Display for Event {
             RefusedCr => "line refused: CR",
             RefusedNul => "line refused: NUL",
             RefusedHighByte => "line refused: byte above 127",
-            RefusedWideNumber => "line refused: number too wide",
+            RefusedNoAccount => "line refused: open without an account",
+            RefusedWideAccount => "line refused: account too wide",
+            RefusedOddAccount => "line refused: account that is no number",
+            RefusedAfterAccount => "line refused: open with a word after the account",
+            RefusedWideNumber => "line refused: another number too wide",
             RefusedOther => "line refused: other",
             Exactly256Good => "good line of exactly 256 bytes",
             LeadingZeroGood => "good line with leading zeros",
@@ -206,16 +276,21 @@ impl fmt::Display for Event {
             ReadBeforeRing => "  of these: the first table",
             ReadReplaced => "  of these: in place of another table",
             ReadWithRemark => "  of these: with a remark",
+            ReadWithAccount => "  of these: with an account",
+            ReadWithoutAccount => "  of these: with circuits, none of which has an account",
             ReadWithPair => "  of these: with two circuits at a place",
             ReadWithReturn(way) => {
                 return write!(f, "  of these: a circuit and its return share {}", word(*way))
             }
+            ReadFieldMap(bits) => return write!(f, "  of these: with field map {bits:05b}"),
             ReadFault(fault) => {
                 let number = fault.refusal().number();
                 return write!(f, "read refused {number}{}", detail(*fault));
             }
             ReadFailed => "read failed",
             Written => "write",
+            WrittenWithAccount => "  of these: with an account",
+            WrittenAfterMove => "  of these: a circuit with an account was moved before",
             WriteFailed => "write failed",
             Load => "load",
             LinkCircuit => "link circuit",
@@ -226,6 +301,8 @@ impl fmt::Display for Event {
             LinkRefusedWide => "  of these: good in the lowest 8 bits",
             Circuits => "circuits",
             CircuitsNone => "  of these: none",
+            CircuitsWithAccount => "  of these: with an account",
+            CircuitsAfterMove => "  of these: a circuit with an account was moved before",
             RefusedBeforeTable(word) => {
                 return write!(f, "line refused: {word} before the first table")
             }
@@ -248,11 +325,15 @@ fn word(direction: Direction) -> &'static str {
 /// Which of the faults with the same refusal it is.
 fn detail(fault: Fault) -> &'static str {
     match fault {
-        Fault::Ring(_) | Fault::Cut | Fault::Tail => "",
+        Fault::Ring(_) | Fault::Tail => "",
+        Fault::Cut => ": another field",
+        Fault::AccountCut => ": an account",
         Fault::HighPlace => ": map bit at 2 x W or above",
-        Fault::UnknownField => ": field map bit 3 to 7",
+        Fault::UnknownField => ": field map bit 5 to 7",
         Fault::RemarkOfNone => ": bit 2 without bit 1",
+        Fault::AccountOfNone => ": bit 4 without bit 1",
         Fault::RemarkOfZero => ": a written remark of 0",
+        Fault::AccountOfZero => ": a written account of 0",
         Fault::Rule(Rule::Limits) => ": limits",
         Fault::Rule(Rule::UnusedFields) => ": unused fields",
         Fault::Rule(Rule::Ends) => ": ends off the ring or equal",

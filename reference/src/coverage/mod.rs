@@ -4,7 +4,7 @@ mod event;
 mod plan;
 mod script;
 
-use std::collections::BTreeMap;
+use std::collections::{BTreeMap, BTreeSet};
 use std::fmt;
 
 use crate::program::Program;
@@ -18,11 +18,19 @@ pub struct Coverage {
     pub lines: u64,
     pub most_looks: u32,
     counts: BTreeMap<Event, u64>,
+    /// The numbers of circuits with accounts that openings have moved on the present table.
+    moved_with_account: BTreeSet<u32>,
 }
 
 impl Coverage {
     pub fn of(program: Program) -> Coverage {
-        Coverage { program, lines: 0, most_looks: 0, counts: BTreeMap::new() }
+        Coverage {
+            program,
+            lines: 0,
+            most_looks: 0,
+            counts: BTreeMap::new(),
+            moved_with_account: BTreeSet::new(),
+        }
     }
 
     pub fn count(&self, event: Event) -> u64 {

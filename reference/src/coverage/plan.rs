@@ -1,6 +1,8 @@
 //! What the lines of the planning program reach.
 
-use super::script::{narrow, sort_of_odd_bytes};
+use std::collections::BTreeSet;
+
+use super::script::{narrow, sort_of_odd_account, sort_of_odd_bytes};
 use super::Event::*;
 use super::{Before, Coverage, Event};
 use crate::circuit::Circuit;
@@ -41,24 +43,41 @@ impl Coverage {
             (Answer::Read { .. }, Some(table)) => self.saw_read(before, table),
             (Answer::ReadRefused(_), _) => self.saw_refused_form(line),
             (Answer::ReadFailed, _) => self.saw(ReadFailed),
-            (Answer::Written(_) | Answer::FileWritten { .. }, _) => self.saw(Written),
+            (Answer::Written(_) | Answer::FileWritten { .. }, Some(table)) => {
+                self.saw(Written);
+                self.saw_accounts_shown(table, WrittenWithAccount, WrittenAfterMove);
+            }
             (Answer::WriteFailed, _) => self.saw(WriteFailed),
             (Answer::Load(_), _) => self.saw(Load),
             (Answer::Link(_) | Answer::LinkRefused(_), Some(table)) => {
                 self.saw_link(line, answer, table);
             }
-            (Answer::Circuits(circuits), _) => {
+            (Answer::Circuits(circuits), Some(table)) => {
                 self.saw(Circuits);
                 self.saw_if(circuits.is_empty(), CircuitsNone);
+                self.saw_accounts_shown(table, CircuitsWithAccount, CircuitsAfterMove);
             }
             _ => unreachable!("there is no such answer without a table"),
         }
     }
 
+    /// Counts an answer that shows accounts, and whether a circuit that has one was moved before.
+    fn saw_accounts_shown(&mut self, table: &Table, shown: Event, after_move: Event) {
+        let mut with_account = table.circuits().filter(|circuit| circuit.account != 0).peekable();
+        self.saw_if(with_account.peek().is_some(), shown);
+        let was_moved = |circuit: Circuit| self.moved_with_account.contains(&circuit.number);
+        let is_after_move = with_account.any(was_moved);
+        self.saw_if(is_after_move, after_move);
+    }
+
     fn saw_read(&mut self, before: Before, table: &Table) {
+        self.moved_with_account.clear();
         self.saw(Read);
         self.saw(if before.had_table { ReadReplaced } else { ReadBeforeRing });
         self.saw_if(table.circuits().any(|circuit| circuit.remark != 0), ReadWithRemark);
+        let has_account = table.circuits().any(|circuit| circuit.account != 0);
+        self.saw_if(has_account, ReadWithAccount);
+        self.saw_if(!has_account && table.circuits().next().is_some(), ReadWithoutAccount);
         self.saw_if(table.pairs().next().is_some(), ReadWithPair);
         for way in [Clockwise, Counterclockwise] {
             let is_return = |(place, a, b): (Place, Circuit, Circuit)| {
@@ -66,6 +85,9 @@ impl Coverage {
             };
             self.saw_if(table.pairs().any(is_return), ReadWithReturn(way));
         }
+        let field_maps: BTreeSet<u8> =
+            table.channels.iter().copied().filter_map(form::field_map).collect();
+        field_maps.into_iter().for_each(|bits| self.saw(ReadFieldMap(bits)));
     }
 
     fn saw_refused_form(&mut self, line: &[u8]) {
@@ -111,6 +133,8 @@ fn sort_of_refused(line: &[u8]) -> Event {
     } else if let Some(sort) = sort_of_odd_bytes(line) {
         sort
     } else if let Some(sort) = sort_of_odd_form(line) {
+        sort
+    } else if let Some(sort) = sort_of_odd_account(line) {
         sort
     } else if parse(&narrow(line)).is_some() {
         RefusedWideNumber

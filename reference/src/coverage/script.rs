@@ -6,7 +6,7 @@ use crate::circuit::can_share;
 use crate::lines::words;
 use crate::opening::{Move, Opening};
 use crate::place::Place;
-use crate::script::{parse, Answer, Desk, LINE_MOST};
+use crate::script::{parse, Answer, Desk, Request, LINE_MOST};
 use crate::table::Table;
 
 impl Coverage {
@@ -33,13 +33,15 @@ impl Coverage {
     ) {
         match *answer {
             Answer::Ring { .. } => {
+                self.moved_with_account.clear();
                 self.saw(RingAccepted);
                 self.saw_if(before.had_table, RingReplaced);
             }
             Answer::RingRefused(refusal) => self.saw(RingRefused(refusal.number())),
-            Answer::Opened { opening, ref moves, .. } => {
+            Answer::Opened { number, opening, ref moves } => {
                 let table = table.expect("an opening has a table");
                 self.saw_opening(table, opening, &moves[..opening.moves]);
+                self.saw_accounts(table, number, &moves[..opening.moves]);
             }
             Answer::OpenRefused { refusal, .. } => self.saw(OpenRefused(refusal.number())),
             Answer::Closed { .. } => {
@@ -97,6 +99,20 @@ impl Coverage {
         self.saw_if(from_c.from.0 >= 2, Step3bOverShared);
     }
 
+    /// The accounts of the circuit opened and of those moved.
+    fn saw_accounts(&mut self, table: &Table, opened: u32, moves: &[Move]) {
+        let account = |number| {
+            let circuit = table.circuits().find(|circuit| circuit.number == number);
+            circuit.expect("an opening keeps every circuit").account
+        };
+        self.saw_if(account(opened) != 0, OpenedWithAccount);
+        self.saw_if(account(opened) == u32::MAX, OpenedWithWidestAccount);
+        let numbers = moves.iter().map(|moved| moved.number);
+        let with_account: Vec<u32> = numbers.filter(|&number| account(number) != 0).collect();
+        self.saw_if(!with_account.is_empty(), MovedWithAccount { moves: moves.len() });
+        self.moved_with_account.extend(with_account);
+    }
+
     /// Counts a good line whose numbers have leading zeros.
     pub(super) fn saw_numbers(&mut self, line: &[u8]) {
         let zero_leads = |word: &[u8]| word.len() > 1 && word[0] == b'0';
@@ -110,6 +126,8 @@ fn sort_of_refused(line: &[u8]) -> Event {
     } else if parse(line).is_some() {
         RefusedBeforeRing
     } else if let Some(sort) = sort_of_odd_bytes(line) {
+        sort
+    } else if let Some(sort) = sort_of_odd_account(line) {
         sort
     } else if parse(&narrow(line)).is_some() {
         RefusedWideNumber
@@ -132,6 +150,26 @@ pub(super) fn sort_of_odd_bytes(line: &[u8]) -> Option<Event> {
         Some(RefusedSpaces)
     } else {
         None
+    }
+}
+
+/// The sort of an opening that is good but for its account, or for what follows it.
+pub(super) fn sort_of_odd_account(line: &[u8]) -> Option<Event> {
+    let opens = |line: &[u8]| matches!(parse(line), Some(Request::Open(_)));
+    let opens_with_account = |line: &[u8]| opens(&[line, b" 0"].concat());
+    if opens_with_account(line) {
+        return Some(RefusedNoAccount);
+    }
+    let last_space = line.iter().rposition(|&byte| byte == b' ')?;
+    let (front, last_word) = (&line[..last_space], &line[last_space + 1..]);
+    if opens(front) {
+        Some(RefusedAfterAccount)
+    } else if !opens_with_account(front) {
+        None
+    } else if last_word.iter().all(u8::is_ascii_digit) {
+        Some(RefusedWideAccount)
+    } else {
+        Some(RefusedOddAccount)
     }
 }
 

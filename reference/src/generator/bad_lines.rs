@@ -68,14 +68,14 @@ impl Generator {
         };
         let template = match most {
             255 => *self.random.pick(&[
-                "open 7 W 2 0",
-                "open 7 1 W 0",
+                "open 7 W 2 0 0",
+                "open 7 1 W 0 0",
                 "ring W 1 1 1",
                 "ring 3 1 W 1",
                 "ring 2 W",
             ]),
-            65535 => "open 7 1 2 W",
-            _ => *self.random.pick(&["open W 1 2 0", "close W"]),
+            65535 => "open 7 1 2 W 0",
+            _ => *self.random.pick(&["open W 1 2 0 0", "open 7 1 2 0 W", "close W"]),
         };
         template.replace('W', &wide).into_bytes()
     }
@@ -107,10 +107,10 @@ impl Generator {
 
     fn with_odd_word(&mut self) -> Vec<u8> {
         let words = [
-            "Open 1 1 2 0",
-            "OPEN 1 1 2 0",
-            "opens 1 1 2 0",
-            "ope 1 1 2 0",
+            "Open 1 1 2 0 0",
+            "OPEN 1 1 2 0 0",
+            "opens 1 1 2 0 0",
+            "ope 1 1 2 0 0",
             "clos 1",
             "closed 1",
             "Ring 3 1 1 1",
@@ -128,12 +128,13 @@ impl Generator {
         self.random.pick(&words).as_bytes().to_vec()
     }
 
-    /// A sign, a point, a letter or a comma in a number.
+    /// A sign, a point, a letter or a comma in the first number or the last.
     fn with_odd_number(&mut self) -> Vec<u8> {
         let mut line = self.good_line();
-        let first_digit = line.iter().position(|&byte| byte == b' ').unwrap_or(0) + 1;
+        let first = line.iter().position(|&byte| byte == b' ').unwrap_or(0) + 1;
+        let last = line.iter().rposition(|&byte| byte == b' ').unwrap_or(0) + 1;
         let odd = *self.random.pick(b"+-.,xae_/:");
-        let at = *self.random.pick(&[first_digit, line.len()]);
+        let at = *self.random.pick(&[first, last, line.len()]);
         line.insert(at, odd);
         line
     }

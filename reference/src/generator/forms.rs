@@ -1,18 +1,21 @@
 //! Saved forms to read: good ones, and ones with each fault that a refusal names.
 
 use super::rings::Shape;
-use super::tables::{break_rule, scattered};
+use super::tables::{break_rule, scattered, without_accounts};
 use super::traffic::some_of;
 use super::Generator;
-use crate::form::{form_of, FIRST_REMARK, SECOND_PRESENT, SECOND_REMARK};
+use crate::form::{
+    form_of, ACCOUNT_BYTES, CIRCUIT_BYTES, FIRST_ACCOUNT, FIRST_REMARK, REMARK_BYTES,
+    SECOND_ACCOUNT, SECOND_PRESENT, SECOND_REMARK,
+};
 use crate::random::Random;
 use crate::table::{Table, NODE_PORTS_MOST, PLACES};
 
 /// Saved forms that are remembered.
 const SAVED_MOST: usize = 8;
 
-/// The bytes of a record's number, source and destination.
-const CIRCUIT_BYTES: usize = 6;
+/// In how many of a hundred tables no circuit has an account, as in forms saved before.
+const WITHOUT_ACCOUNTS: usize = 25;
 
 /// The longest form that a line has room for.
 const FORM_ON_LINE_MOST: usize = 4093;
@@ -62,7 +65,12 @@ impl Generator {
     fn scattered_table(&mut self) -> Table {
         let shape = Shape::choose(self.kind, &mut self.random);
         let ports = shape.ports(&mut self.random);
-        scattered(&ports, &mut self.random)
+        let table = scattered(&ports, &mut self.random);
+        if self.random.percent(WITHOUT_ACCOUNTS) {
+            without_accounts(table)
+        } else {
+            table
+        }
     }
 }
 
@@ -70,17 +78,18 @@ impl Generator {
 fn damaged(table: &Table, random: &mut Random) -> Vec<u8> {
     let mut form = form_of(table);
     let map = 1 + usize::from(table.nodes);
-    match random.below(12) {
+    match random.below(15) {
         0 => form[0] = *random.pick(&[0, 1, 2, 65, 66, 128, 255]),
         1 => form[0] = form[0].wrapping_add_signed(*random.pick(&[-1, 1])),
         2 => form[random.between(1, map - 1)] = random.between(65, 255) as u8,
         3 => form[1..map].iter_mut().take(random.between(3, 5)).for_each(|k| *k = NODE_PORTS_MOST),
         4 => set_bit(&mut form[map..], random.between(table.places_in_use().min(127), PLACES - 1)),
         5 => set_bit(&mut form[map..], random.below(table.places_in_use().max(1))),
-        6 | 7 => damage_field_map(&mut form, random),
-        8 => write_remark_of_zero(&mut form, random),
-        9 => cut(&mut form, random),
-        10 => lengthen(&mut form, random),
+        6..=8 => damage_field_map(&mut form, random),
+        9 | 10 => write_zero(&mut form, random),
+        11 => cut_optional(&mut form, random),
+        12 => cut(&mut form, random),
+        13 => lengthen(&mut form, random),
         _ => {
             let at = random.below(form.len());
             form[at] = random.below(256) as u8;
@@ -113,67 +122,86 @@ fn lengthen(form: &mut Vec<u8>, random: &mut Random) {
     form.extend((0..more).map(|_| random.below(256) as u8));
 }
 
-/// Where the records of a good form begin.
-fn records(form: &[u8]) -> Vec<usize> {
-    let mut starts = Vec::new();
+/// A field of a circuit that is written only where the field map of its record has its bit.
+#[derive(Clone, Copy)]
+struct Optional {
+    record: usize,
+    bit: u8,
+    /// Where the field begins, or would begin.
+    at: usize,
+    bytes: usize,
+}
+
+impl Optional {
+    fn is_written(self, form: &[u8]) -> bool {
+        form[self.record] & self.bit != 0
+    }
+}
+
+/// The bits and widths of a circuit's optional fields, in their order.
+const OF_FIRST: [(u8, usize); 2] = [(FIRST_REMARK, REMARK_BYTES), (FIRST_ACCOUNT, ACCOUNT_BYTES)];
+const OF_SECOND: [(u8, usize); 2] =
+    [(SECOND_REMARK, REMARK_BYTES), (SECOND_ACCOUNT, ACCOUNT_BYTES)];
+
+/// The optional fields of every circuit of a good form, written or not.
+fn optional_fields(form: &[u8]) -> Vec<Optional> {
+    let mut fields = Vec::new();
     let mut at = 1 + usize::from(form[0]) + PLACES / 8;
     while at < form.len() {
-        starts.push(at);
-        let second = second_circuit(form, at);
-        at = match form[at] & SECOND_PRESENT {
-            0 => second,
-            _ => second + CIRCUIT_BYTES + remark_bytes(form[at], SECOND_REMARK),
-        };
+        let record = at;
+        let has_second = form[record] & SECOND_PRESENT != 0;
+        at += 1;
+        for of_circuit in [OF_FIRST, OF_SECOND].iter().take(1 + usize::from(has_second)) {
+            at += CIRCUIT_BYTES;
+            for &(bit, bytes) in of_circuit {
+                let field = Optional { record, bit, at, bytes };
+                fields.push(field);
+                at += if field.is_written(form) { bytes } else { 0 };
+            }
+        }
     }
-    starts
+    fields
 }
 
-/// Where the second circuit of the record begins, or would begin.
-fn second_circuit(form: &[u8], record: usize) -> usize {
-    record + 1 + CIRCUIT_BYTES + remark_bytes(form[record], FIRST_REMARK)
-}
-
-/// The bytes of the remark that a bit of the field map stands for.
-fn remark_bytes(field_map: u8, bit: u8) -> usize {
-    match field_map & bit {
-        0 => 0,
-        _ => 2,
-    }
-}
-
+/// A bit that none may be, one that needs a second circuit without it, or one too many or few.
 fn damage_field_map(form: &mut [u8], random: &mut Random) {
-    let Some(record) = some_of(&records(form), random) else {
+    let Some(Optional { record, bit, .. }) = some_of(&optional_fields(form), random) else {
         return;
     };
-    match random.below(4) {
-        0 => form[record] |= 1 << random.between(3, 7),
-        1 => form[record] = form[record] & FIRST_REMARK | SECOND_REMARK,
-        2 => form[record] ^= FIRST_REMARK,
-        _ => form[record] ^= SECOND_PRESENT,
-    }
+    let alone = form[record] & (FIRST_REMARK | FIRST_ACCOUNT);
+    form[record] = match random.below(6) {
+        0 | 1 => form[record] | 1 << random.between(5, 7),
+        2 => alone | SECOND_REMARK,
+        3 => alone | SECOND_ACCOUNT,
+        4 => form[record] ^ bit,
+        _ => form[record] ^ SECOND_PRESENT,
+    };
 }
 
-/// A remark of 0 written for a circuit; now and then the form ends within it or right after.
-fn write_remark_of_zero(form: &mut Vec<u8>, random: &mut Random) {
-    let Some(record) = some_of(&records(form), random) else {
+/// A remark or account of 0 written; now and then the form ends within it or right after.
+fn write_zero(form: &mut Vec<u8>, random: &mut Random) {
+    let Some(field) = some_of(&optional_fields(form), random) else {
         return;
     };
-    let has_second = form[record] & SECOND_PRESENT != 0;
-    let (circuit, bit) = if has_second && random.percent(50) {
-        (second_circuit(form, record), SECOND_REMARK)
+    let Optional { record, bit, at, bytes } = field;
+    if field.is_written(form) {
+        form[at..at + bytes].fill(0);
     } else {
-        (record + 1, FIRST_REMARK)
-    };
-    let remark = circuit + CIRCUIT_BYTES;
-    if form[record] & bit == 0 {
         form[record] |= bit;
-        form.splice(remark..remark, [0, 0]);
-    } else {
-        form[remark..remark + 2].fill(0);
+        form.splice(at..at, vec![0; bytes]);
     }
     match random.below(5) {
-        0 => form.truncate(remark + 1),
-        1 => form.truncate(remark + 2),
+        0 => form.truncate(at + random.below(bytes)),
+        1 => form.truncate(at + bytes),
         _ => {}
+    }
+}
+
+/// Ends the form where a written remark or account begins, or within it.
+fn cut_optional(form: &mut Vec<u8>, random: &mut Random) {
+    let mut fields = optional_fields(form);
+    fields.retain(|field| field.is_written(form));
+    if let Some(Optional { at, bytes, .. }) = some_of(&fields, random) {
+        form.truncate(at + random.below(bytes));
     }
 }

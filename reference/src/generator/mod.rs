@@ -3,17 +3,20 @@
 
 mod bad_lines;
 mod forms;
+mod longest;
 mod plan_lines;
 mod rings;
 mod tables;
 mod traffic;
 
+use crate::circuit::Circuit;
 use crate::plan::{Answer, Planner};
 use crate::program::Program;
 use crate::random::Random;
 use crate::script::{Request, LINE_MOST};
 use crate::table::Table;
 
+use longest::Longest;
 use rings::Shape;
 use traffic::Tide;
 
@@ -27,6 +30,8 @@ pub enum Kind {
     Mixed,
     /// One ring with few circuits and few faults.
     Light,
+    /// No traffic: the longest forms, each read and written back by the planning program.
+    Forms,
 }
 
 impl Kind {
@@ -36,6 +41,7 @@ impl Kind {
             "large" => Some(Kind::Large),
             "mixed" => Some(Kind::Mixed),
             "light" => Some(Kind::Light),
+            "forms" => Some(Kind::Forms),
             _ => None,
         }
     }
@@ -46,6 +52,7 @@ impl Kind {
             Kind::Small | Kind::Mixed => Odds { bad_line: 60, bad_ring: 15, bad_request: 100 },
             Kind::Large => Odds { bad_line: 15, bad_ring: 3, bad_request: 40 },
             Kind::Light => Odds { bad_line: 2, bad_ring: 1, bad_request: 5 },
+            Kind::Forms => Odds { bad_line: 0, bad_ring: 0, bad_request: 0 },
         }
     }
 }
@@ -82,6 +89,7 @@ pub struct Generator {
     tide: Tide,
     lines_left_on_ring: usize,
     saved_forms: Vec<Vec<u8>>,
+    longest: Longest,
 }
 
 impl Generator {
@@ -94,12 +102,14 @@ impl Generator {
             tide: Tide::default(),
             lines_left_on_ring: 0,
             saved_forms: Vec::new(),
+            longest: Longest::default(),
         }
     }
 
     /// The next line, without its line end.
     pub fn next_line(&mut self) -> Vec<u8> {
         let line = match self.program {
+            _ if self.kind == Kind::Forms => self.longest.next_line(&mut self.random),
             Program::Plan if self.random.percent(PLAN_LINES) => self.plan_line(),
             _ => self.script_line(),
         };
@@ -201,10 +211,9 @@ fn plain(request: &Request) -> Vec<u8> {
             ports.iter().for_each(|count| text.push_str(&format!(" {count}")));
             text
         }
-        Request::Open(circuit) => format!(
-            "open {} {} {} {}",
-            circuit.number, circuit.source, circuit.destination, circuit.remark
-        ),
+        Request::Open(Circuit { number, source, destination, remark, account }) => {
+            format!("open {number} {source} {destination} {remark} {account}")
+        }
         Request::Close(number) => format!("close {number}"),
     };
     text.into_bytes()

@@ -212,7 +212,7 @@ impl Generator {
     }
 }
 
-fn read(form: &[u8]) -> Vec<u8> {
+pub(super) fn read(form: &[u8]) -> Vec<u8> {
     let digits = if form.is_empty() { "-".to_string() } else { hexadecimal(form) };
     format!("read {digits}").into_bytes()
 }

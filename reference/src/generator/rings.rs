@@ -21,7 +21,7 @@ impl Shape {
     pub fn choose(kind: Kind, random: &mut Random) -> Shape {
         match kind {
             Kind::Small => Shape::Small,
-            Kind::Large => Shape::Large,
+            Kind::Large | Kind::Forms => Shape::Large,
             // Small rings stay for fewer lines, so they come more often.
             Kind::Mixed => match random.below(8) {
                 0 => Shape::Large,

@@ -1,7 +1,7 @@
 //! Tables that meet the ring rules with circuits wherever they may stand, as no row of openings
 //! leaves them; and tables that break a ring rule.
 
-use super::traffic::{free_number, off_ring, remark, some_of, Ends};
+use super::traffic::{new_circuit, off_ring, some_of, Ends};
 use crate::circuit::{can_share, Circuit};
 use crate::place::Place;
 use crate::random::Random;
@@ -35,8 +35,7 @@ fn one_more(table: &Table, share: usize, random: &mut Random) -> Option<Lightpat
     if source == destination {
         return None;
     }
-    let number = free_number(table, random);
-    let circuit = Circuit { number, source, destination, remark: remark(random) };
+    let circuit = new_circuit(table, source, destination, random);
     let (mut shared, mut unlit) = (Vec::new(), Vec::new());
     for place in (0..table.places_in_use() as u8).map(Place) {
         match table.channels[place.index()] {
@@ -49,6 +48,18 @@ fn one_more(table: &Table, share: usize, random: &mut Random) -> Option<Lightpat
     }
     let places = if unlit.is_empty() || random.percent(share) { shared } else { unlit };
     Some(Lightpath { circuit, place: some_of(&places, random)? })
+}
+
+/// The table with no account at any circuit.
+pub fn without_accounts(mut table: Table) -> Table {
+    for channel in &mut table.channels {
+        match channel {
+            Channel::Unlit => {}
+            Channel::One(circuit) => circuit.account = 0,
+            Channel::Two(first, second) => (first.account, second.account) = (0, 0),
+        }
+    }
+    table
 }
 
 /// Changes the table so that it mostly breaks one of the rules for circuits.

@@ -82,8 +82,7 @@ impl Tide {
             if source == destination {
                 continue;
             }
-            let number = free_number(table, random);
-            let circuit = Circuit { number, source, destination, remark: remark(random) };
+            let circuit = new_circuit(table, source, destination, random);
             let worth = if self.spreads { worth(table, circuit) } else { 0 };
             if best.is_none_or(|(most, _)| worth > most) {
                 best = Some((worth, circuit));
@@ -161,12 +160,8 @@ fn is_long(nodes: u8, circuit: Circuit, place: Place) -> bool {
 /// An opening or closing that is refused, or at least a likely one.
 pub fn refused(table: &Table, random: &mut Random) -> Request {
     let live = live_number(table, random);
-    let mut circuit = Circuit {
-        number: free_number(table, random),
-        source: any_node(table, random),
-        destination: any_node(table, random),
-        remark: remark(random),
-    };
+    let (source, destination) = (any_node(table, random), any_node(table, random));
+    let mut circuit = new_circuit(table, source, destination, random);
     let ports = Ports::of(table);
     match random.below(8) {
         0 => circuit.source = off_ring(table, random),
@@ -314,10 +309,28 @@ pub fn off_ring(table: &Table, random: &mut Random) -> u8 {
     }
 }
 
-pub fn remark(random: &mut Random) -> u16 {
+/// A circuit whose number is not live.
+pub fn new_circuit(table: &Table, source: u8, destination: u8, random: &mut Random) -> Circuit {
+    let number = free_number(table, random);
+    Circuit { number, source, destination, remark: remark(random), account: account(random) }
+}
+
+fn remark(random: &mut Random) -> u16 {
     match random.below(8) {
         0 => u16::MAX,
         1 | 2 => random.between(1, usize::from(u16::MAX)) as u16,
+        _ => 0,
+    }
+}
+
+/// Mostly none or one of a few accounts that come again, but every size of account, and such as
+/// have all their ones in one byte.
+fn account(random: &mut Random) -> u32 {
+    match random.below(16) {
+        0 => u32::MAX,
+        1 => 1 << *random.pick(&[8, 16, 24, 31]),
+        2 => random.draw() as u32,
+        3..=8 => random.between(1, 40) as u32,
         _ => 0,
     }
 }

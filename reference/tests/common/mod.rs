@@ -10,7 +10,7 @@ use ring::script::Desk;
 use ring::table::{Channel, Table};
 
 pub fn circuit(number: u32, source: u8, destination: u8) -> Circuit {
-    Circuit { number, source, destination, remark: 0 }
+    Circuit { number, source, destination, remark: 0, account: 0 }
 }
 
 pub fn ring(ports: &[u8]) -> Table {

@@ -16,11 +16,14 @@ map-holds-requires c κs = search needs
 returns-2 : tie.Need-returns-2
 returns-2 c = search (needs, recordRules)
 
-add-read-circuit : tie.Need-add-read-circuit
-add-read-circuit c = search needs
-
 stands-requires : tie.Need-stands-requires
 stands-requires c κs = search needs
+
+stands-requires-2 : tie.Need-stands-requires-2
+stands-requires-2 c κs = search needs
+
+add-read-circuit : tie.Need-add-read-circuit
+add-read-circuit c = search needs
 
 read-circuit-requires : tie.Need-read-circuit-requires
 read-circuit-requires c κs = search needs
@@ -31,11 +34,14 @@ enum-known-refusal c = search needs
 enum-known-first : tie.Need-enum-known-first
 enum-known-first c = search needs
 
-stands-requires-2 : tie.Need-stands-requires-2
-stands-requires-2 c κs = search needs
-
 stands-requires-3 : tie.Need-stands-requires-3
 stands-requires-3 c κs = search needs
+
+stands-requires-4 : tie.Need-stands-requires-4
+stands-requires-4 c κs = search needs
+
+stands-requires-5 : tie.Need-stands-requires-5
+stands-requires-5 c κs = search needs
 
 read-second-requires : tie.Need-read-second-requires
 read-second-requires c κs = search (needs, recordRules)
@@ -54,13 +60,15 @@ read-record-spec =
     shared-slice-read-map
     map-holds-requires
     returns-2
-    add-read-circuit
     stands-requires
+    stands-requires-2
+    add-read-circuit
     read-circuit-requires
     enum-known-refusal
     enum-known-first
-    stands-requires-2
     stands-requires-3
+    stands-requires-4
+    stands-requires-5
     read-second-requires
     returns-3
     returns-4)

@@ -10,14 +10,32 @@ cast-present c = search needs
 present-requires : tie.Need-present-requires
 present-requires c κs = search needs
 
-add-result : tie.Need-add-result
-add-result c = search needs
-
 cast-present-2 : tie.Need-cast-present-2
 cast-present-2 c = search needs
 
 present-requires-2 : tie.Need-present-requires-2
 present-requires-2 c κs = search needs
+
+mul-remarks : tie.Need-mul-remarks
+mul-remarks c = search needs
+
+add-remarks : tie.Need-add-remarks
+add-remarks c = search needs
+
+present-requires-3 : tie.Need-present-requires-3
+present-requires-3 c κs = search needs
+
+present-requires-4 : tie.Need-present-requires-4
+present-requires-4 c κs = search needs
+
+mul-accounts : tie.Need-mul-accounts
+mul-accounts c = search needs
+
+add-accounts : tie.Need-add-accounts
+add-accounts c = search needs
+
+add-result : tie.Need-add-result
+add-result c = search needs
 
 mul-result : tie.Need-mul-result
 mul-result c = search needs
@@ -34,9 +52,15 @@ shared-map-spec =
     (tie.spec
     cast-present
     present-requires
-    add-result
     cast-present-2
     present-requires-2
+    mul-remarks
+    add-remarks
+    present-requires-3
+    present-requires-4
+    mul-accounts
+    add-accounts
+    add-result
     mul-result
     add-result-2
     returns)

@@ -1,6 +1,7 @@
--- `requests::parse_open` meets its contract, by the law of a field, used four times. Assumes nothing.
+-- `requests::parse_open` meets its contract, by the law of a field, used three times. Assumes nothing.
 use borrow.Author.Needs.{needs}
 use Rattle.requests.specs.Line.{parseOpen}
+use Rattle.requests.specs.Details.{parseDetails}
 use Rattle.requests.proofs.Fields.{requests}
 use Rattle.requests.proofs.parse_open.Statement.{statement}
 use Rattle.requests.proofs.parse_open.Tie as tie
@@ -53,22 +54,6 @@ returns-3 : tie.Need-returns-3
 unfolding parseOpen
 returns-3 c = search (needs, requests)
 
-read-field-requires-4 : tie.Need-read-field-requires-4
-read-field-requires-4 c κs = search (needs, requests)
-
-enum-known-remark : tie.Need-enum-known-remark
-enum-known-remark c = search (needs, requests)
-
-enum-told-4 : tie.Need-enum-told-4
-enum-told-4 c = search (needs, requests)
-
-plain-requires-4 : tie.Need-plain-requires-4
-plain-requires-4 c κs = search (needs, requests)
-
-returns-4 : tie.Need-returns-4
-unfolding parseOpen
-returns-4 c = search (needs, requests)
-
 cast-number : tie.Need-cast-number
 cast-number c = search (needs, requests)
 
@@ -78,15 +63,12 @@ cast-source c = search (needs, requests)
 cast-destination : tie.Need-cast-destination
 cast-destination c = search (needs, requests)
 
-cast-remark : tie.Need-cast-remark
-cast-remark c = search (needs, requests)
+parse-details-requires : tie.Need-parse-details-requires
+parse-details-requires c κs = search (needs, requests)
 
-at-end-requires : tie.Need-at-end-requires
-at-end-requires c κs = search (needs, requests)
-
-returns-5 : tie.Need-returns-5
-unfolding parseOpen
-returns-5 c = search (needs, requests)
+returns-4 : tie.Need-returns-4
+unfolding parseOpen parseDetails
+returns-4 c = search (needs, requests)
 
 pub parse-open-spec : {M : Type 1} → statement M
 parse-open-spec =
@@ -107,14 +89,8 @@ parse-open-spec =
     enum-told-3
     plain-requires-3
     returns-3
-    read-field-requires-4
-    enum-known-remark
-    enum-told-4
-    plain-requires-4
-    returns-4
     cast-number
     cast-source
     cast-destination
-    cast-remark
-    at-end-requires
-    returns-5)
+    parse-details-requires
+    returns-4)

@@ -49,11 +49,23 @@ enum-known-remark c = search needs
 cast-remark : tie.Need-cast-remark
 cast-remark c = search (needs, circuitRules)
 
+read-optional-requires-2 : tie.Need-read-optional-requires-2
+read-optional-requires-2 c κs = search (needs, circuitRules)
+
+enum-known-refusal-2 : tie.Need-enum-known-refusal-2
+enum-known-refusal-2 c = search needs
+
+enum-known-account : tie.Need-enum-known-account
+enum-known-account c = search needs
+
 returns-2 : tie.Need-returns-2
 returns-2 c = search (needs, circuitRules)
 
 returns-3 : tie.Need-returns-3
 returns-3 c = search (needs, circuitRules)
+
+returns-4 : tie.Need-returns-4
+returns-4 c = search (needs, circuitRules)
 
 pub read-circuit-spec : {M : Type 1} → statement M
 read-circuit-spec =
@@ -74,5 +86,9 @@ read-circuit-spec =
     enum-known-refusal
     enum-known-remark
     cast-remark
+    read-optional-requires-2
+    enum-known-refusal-2
+    enum-known-account
     returns-2
-    returns-3)
+    returns-3
+    returns-4)

@@ -4,20 +4,11 @@ use Rattle.encode_record.proofs.Circuits.{circuitRules}
 use Rattle.encode_record.proofs.circuit.put_circuit.Statement.{statement}
 use Rattle.encode_record.proofs.circuit.put_circuit.Tie as tie
 
-put-number-requires : tie.Need-put-number-requires
-put-number-requires c κs = search (needs, circuitRules)
+put-plain-requires : tie.Need-put-plain-requires
+put-plain-requires c κs = search (needs, circuitRules)
 
-put-byte-requires : tie.Need-put-byte-requires
-put-byte-requires c κs = search (needs, circuitRules)
-
-put-byte-requires-2 : tie.Need-put-byte-requires-2
-put-byte-requires-2 c κs = search (needs, circuitRules)
-
-cast-put-optional : tie.Need-cast-put-optional
-cast-put-optional c = search needs
-
-put-optional-requires : tie.Need-put-optional-requires
-put-optional-requires c κs = search (needs, circuitRules)
+put-optional-fields-requires : tie.Need-put-optional-fields-requires
+put-optional-fields-requires c κs = search (needs, circuitRules)
 
 same-length : tie.Need-same-length
 same-length c = search needs
@@ -29,10 +20,7 @@ pub put-circuit-spec : {M : Type 1} → statement M
 put-circuit-spec =
     tie.close
     (tie.spec
-    put-number-requires
-    put-byte-requires
-    put-byte-requires-2
-    cast-put-optional
-    put-optional-requires
+    put-plain-requires
+    put-optional-fields-requires
     same-length
     returns)

@@ -1,0 +1,2 @@
+-- The fields of a circuit in two parts.
+pub mod Fields
