@@ -28,6 +28,14 @@ or-stop a b r e h = rw e h
 pub or-next : (a b r : Bool) → a ≡ false → r ≡ b → r ≡ (a || b)
 or-next a b r e h = rw e h
 
+-- of two tests of which neither may pass the first does, and the answer is no
+pub nor-stop : (a b r : Bool) → a ≡ true → r ≡ false → r ≡ not (a || b)
+nor-stop a b r e h = rw e h
+
+-- or the first fails, and the answer is that the second does
+pub nor-next : (a b r : Bool) → a ≡ false → r ≡ not b → r ≡ not (a || b)
+nor-next a b r e h = rw e h
+
 -- a test that a call made
 pub said : (r b t : Bool) → r ≡ b → r ≡ t → b ≡ t
 said r b t e h = sym e ∙ h

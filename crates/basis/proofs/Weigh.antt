@@ -2,7 +2,7 @@
 use Prim.Native.Nat.{ℕ, zero, suc, _+_, _≤_, _<_, zero-le}
 use mathlib.Core.Path.{_≡_, refl, sym}
 use mathlib.Core.Bool.{Bool, true, false}
-use mathlib.Core.List.{List, [], _∷_, _++_}
+use mathlib.Core.List.{List, [], _∷_, _++_, map}
 use native.Mathlib.Nat.{le-of-suc-le-suc, not-suc-le-zero}
 use native.Mathlib.Decide.{ℕ-discrete}
 use native.Mathlib.Omega.{arith}
@@ -70,6 +70,15 @@ pub most-distinct : {A : Type 0} (key : A → ℕ) (xs : List A) → ((k : ℕ) 
 most-distinct key [] h = refl
 most-distinct key (x ∷ xs) h =
     and-both _ _ (eq-eqb (tally key (key x) xs) 0 (omega (arith, h (key x), bit-eq (key x) (key x) refl))) (most-distinct key xs (λ k. omega (arith, h k)))
+
+-- the keys themselves are counted, and are distinct, as those of the elements are
+tally-map : {A : Type 0} (key : A → ℕ) (k : ℕ) (xs : List A) → tally (λ n. n) k (map key xs) ≡ tally key k xs
+tally-map key k [] = refl
+tally-map key k (x ∷ xs) = rw (tally-map key k xs)
+
+pub distinct-map : {A : Type 0} (key : A → ℕ) (xs : List A) → distinct (λ n. n) (map key xs) ≡ distinct key xs
+distinct-map key [] = refl
+distinct-map key (x ∷ xs) = rw (tally-map key (key x) xs, distinct-map key xs)
 
 -- the weight of an element whose key is k, and nothing for the others
 abbrev pub keyed : {A : Type 0} → (A → ℕ) → ℕ → (A → ℕ) → A → ℕ

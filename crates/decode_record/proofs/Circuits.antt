@@ -73,8 +73,8 @@ short m k (x0 ∷ x1 ∷ x2 ∷ x3 ∷ x4 ∷ []) h = refl
 short m k (x0 ∷ x1 ∷ x2 ∷ x3 ∷ x4 ∷ x5 ∷ s) h = absurd (omega arith)
 
 -- the circuit of number n whose nodes stand after four bytes at i, with a remark and an account
-abbrev pub circuitAt : List ℕ → ℕ → ℕ → ℕ → ℕ → Circuit
-circuitAt b i n r x = record { number = n; source = getD b (i + 4) 0; destination = getD b (i + 4 + 1) 0; remark = r; account = x }
+abbrev pub circuitWith : List ℕ → ℕ → ℕ → ℕ → ℕ → Circuit
+circuitWith b i n r x = record { number = n; source = getD b (i + 4) 0; destination = getD b (i + 4 + 1) 0; remark = r; account = x }
 
 -- a circuit: cut short, refused by its remark or its account, or read
 module _ (b : List ℕ) (i : ℕ) (m k : Bool) (l : i ≤ length b) where
@@ -83,7 +83,7 @@ module _ (b : List ℕ) (i : ℕ) (m k : Bool) (l : i ≤ length b) where
 
   module _ (h : 6 ≤ length b - i) (n : ℕ) (e : n ≡ numberIn (take (i + 4 - i) (drop i b)))
       (f : OptionalRead) (a : OptionalAt 2 b f (readOptional 2 m (drop (i + 4 + 2) b))) where
-    begun : readCircuit m k (drop i b) ≡ andThen (readOptional 2 m (drop (i + 4 + 2) b)) (λ r s. andThen (readOptional 4 k s) (λ x. give (circuitAt b i n r x)))
+    begun : readCircuit m k (drop i b) ≡ andThen (readOptional 2 m (drop (i + 4 + 2) b)) (λ r s. andThen (readOptional 4 k s) (λ x. give (circuitWith b i n r x)))
     unfolding readCircuit
     begun =
         let w : i + 4 - i ≡ 4 = omega arith in
@@ -107,13 +107,13 @@ module _ (b : List ℕ) (i : ℕ) (m k : Bool) (l : i ≤ length b) where
       remark-fits = omega (arith, (rw g at a) .1)
 
       module _ (o : OptionalRead) (c : OptionalAt 4 b o (readOptional 4 k (drop j b))) where
-        remarked : readCircuit m k (drop i b) ≡ andThen (readOptional 4 k (drop j b)) (λ x. give (circuitAt b i n r x))
+        remarked : readCircuit m k (drop i b) ≡ andThen (readOptional 4 k (drop j b)) (λ x. give (circuitWith b i n r x))
         remarked = begun ∙ rw ((rw g at a) .2)
 
         pub account-fault : (y : Refusal) → o ≡ Refused y → readCircuit m k (drop i b) ≡ fault y
         account-fault y z = remarked ∙ rw (rw z at c)
 
-        pub circuit-got : (x t : ℕ) → o ≡ Got x t → readCircuit m k (drop i b) ≡ got (circuitAt b i n r x) (drop t b)
+        pub circuit-got : (x t : ℕ) → o ≡ Got x t → readCircuit m k (drop i b) ≡ got (circuitWith b i n r x) (drop t b)
         circuit-got x t z = remarked ∙ rw ((rw z at c) .2)
 
         pub circuit-within : (x t : ℕ) → o ≡ Got x t → t ≤ length b

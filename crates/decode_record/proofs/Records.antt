@@ -1,7 +1,7 @@
 -- Reading the record of a place. Assumes nothing.
 use Prim.Native.Nat.{ℕ, _+_, _≤_, _<_}
 use mathlib.Core.Path.{_≡_, refl, _∙_}
-use mathlib.Core.Bool.{Bool, true, false, _||_, not}
+use mathlib.Core.Bool.{Bool, true, false, not}
 use mathlib.Core.List.{List}
 use lib.ListN.{length, getD, drop, drop-of-length-le}
 use borrow.Author.Tests.{not-true, not-false}
@@ -21,16 +21,6 @@ use Rattle.decode_record.proofs.Circuits.{byte-at}
 -- the position after a circuit that was read is within the form
 pub read-within : (b : List ℕ) (f : CircuitRead) (x : Field Circuit) → CircuitAt b f x → (c : Circuit) (k : ℕ) → f ≡ Got c k → k ≤ length b
 read-within b f x h c k g = (rw g at h) .0
-
--- a remark or an account of a second circuit that is not there
-module _ (x y r : Bool) where
-  pub has-remark : x ≡ true → r ≡ false → r ≡ not (x || y)
-  has-remark e h = rw e h
-
-  pub has-account : x ≡ false → r ≡ not y → r ≡ not (x || y)
-  has-account e h = rw e h
-
-pub ruleset mapRules = (has-remark, has-account)
 
 -- the second circuit: none, refused, or read
 module _ (b : List ℕ) (i : ℕ) (a : Circuit) (second m x : Bool) where

@@ -19,6 +19,7 @@ use Rattle.slots.specs.declared.Slot.{Slot}
 use Rattle.slots.specs.declared.Slot.the-variants.{Unlit as unlit, Alone as alone, Shared as shared}
 use Rattle.slots.specs.Slot.{held}
 use Rattle.lit_words.specs.Lit.{bitOf, word}
+use Rattle.lit_words.proofs.Bits.{bit-above}
 use Rattle.channels.specs.Channels.{Channels, circuits}
 use Rattle.ports.specs.Ports.{limitOf}
 use Rattle.refusals.specs.declared.Refusal.the-variants.{BadField as no-31, BrokenForm as no-33}
@@ -29,7 +30,7 @@ use Rattle.form.specs.Form.{present, fieldBits, fieldMap, recordBytes, f
 use Rattle.form.specs.Reader.{Reader, andThen, _unless_, byte, bytes, end}
 use Rattle.form.specs.Reading.{readPorts, mapBit, readMap, readOptional, readCircuit, mapHolds, readSecond, readRecord, readPlaceBy, readRecordsBy, checked, readBy, readTable, readOf}
 use Rattle.form.specs.BeforeE2.{mapHeldBeforeE2, readRecordBeforeE2, readBeforeE2, NoAccounts, RemainsGood}
-use Rattle.form.proofs.FieldMap.{map-bit, bit-above}
+use Rattle.form.proofs.FieldMap.{map-bit}
 use Rattle.form.proofs.Fields.{Holds, then-holds, then-any, unless-holds, AreBytes}
 use Rattle.form.proofs.Trip.{PlaceBack, place-back}
 use Rattle.form.proofs.Tables.{table-back-by}

@@ -1,9 +1,9 @@
 -- The field map of a record, and back from its bits. Assumes nothing.
-use Prim.Native.Nat.{ℕ, zero, suc, _^_, _<_}
+use Prim.Native.Nat.{ℕ, zero, suc, _<_}
 use mathlib.Core.Path.{_≡_, refl, sym, _∙_}
 use mathlib.Core.Bool.{Bool, true, false, _||_, not}
 use mathlib.Core.List.{List, [], _∷_}
-use native.Mathlib.Nat.{zero-add, div-eq-of-lt}
+use native.Mathlib.Nat.{zero-add}
 use native.Mathlib.Omega.{arith}
 use lib.Dec.{ltb}
 use lib.ListN.{getD}
@@ -11,7 +11,7 @@ use borrow.Author.Tests.{lt-ltb, ltb-true, not-true}
 use Rattle.basis.proofs.Bools.{and-left, and-right, or-false}
 use Rattle.basis.proofs.Weigh.{bit-most}
 use Rattle.lit_words.specs.Lit.{bitOf, word}
-use Rattle.lit_words.proofs.Bits.{word-bit, word-of}
+use Rattle.lit_words.proofs.Bits.{bit-above, word-bit, word-of}
 use Rattle.form.specs.Form.{fieldMap}
 use Rattle.form.specs.Reading.{mapHolds}
 
@@ -24,11 +24,6 @@ map-bit bits b h = word-bit (λ b. getD bits b false) 8 0 b h ∙ rw zero-add
 pub second-absent : (m : ℕ) → mapHolds m ≡ true → bitOf m 1 ≡ false → (bitOf m 2 ≡ false) × (bitOf m 4 ≡ false)
 unfolding mapHolds
 second-absent m h e = or-false (bitOf m 2) (bitOf m 4) (not-true (bitOf m 2 || bitOf m 4) (rw e at (and-right (ltb m 32) _ h)))
-
--- a number has no bit above its highest
-pub bit-above : (m b : ℕ) → m < 2 ^ b → bitOf m b ≡ false
-unfolding bitOf
-bit-above m b h = rw (div-eq-of-lt h)
 
 module _ (b0 b1 b2 b3 b4 : Bool) where
   small : fieldMap (b0 ∷ b1 ∷ b2 ∷ b3 ∷ b4 ∷ []) < 32

@@ -2,7 +2,7 @@
 use Prim.Native.Nat.{ℕ, zero, suc, _+_, _-_, _*_, _/_, _%_, _^_, _<_}
 use mathlib.Core.Path.{_≡_, refl, ap, _∙_}
 use mathlib.Core.Bool.{Bool, true, false, not}
-use native.Mathlib.Nat.{one-mul, mod-eq-of-lt, add-zero, add-suc, suc-add, div-one, div-div-eq-div-mul, pow-suc, pow-succ', le-of-suc-le-suc, not-suc-le-zero}
+use native.Mathlib.Nat.{one-mul, mod-eq-of-lt, add-zero, add-suc, suc-add, div-one, div-eq-of-lt, div-div-eq-div-mul, pow-suc, pow-succ', le-of-suc-le-suc, not-suc-le-zero}
 use native.Mathlib.Omega.{arith}
 use lib.Dec.{eqb}
 use lib.Pow.{pow-lt}
@@ -30,6 +30,11 @@ low-set w e = bit-zero w ∙ eq-eqb (w % 2) 1 e
 
 low-clear : (w : ℕ) → w % 2 ≡ 0 → bitOf w 0 ≡ false
 low-clear w e = bit-zero w ∙ ne-eqb (w % 2) 1 (λ h. omega arith)
+
+-- a word of b bits has none from there on
+pub bit-above : (w b : ℕ) → w < 2 ^ b → bitOf w b ≡ false
+unfolding bitOf
+bit-above w b h = rw (div-eq-of-lt h)
 
 -- the half has one bit less
 half-lt : (k w : ℕ) → w < 2 ^ suc k → w / 2 < 2 ^ k

@@ -16,7 +16,7 @@ use lib.ListN.{length, getD, set, take, replicate, length-set, length-replicate}
 use lib.Seq.{getD-take, length-take-le, take-suc, take-suc-set}
 use Rattle.basis.specs.Count.{tally, distinct}
 use Rattle.basis.proofs.Bools.{fails, bit-eq, bit-ne, byte-bit}
-use Rattle.basis.proofs.Weigh.{bit-most, distinct-most, most-distinct}
+use Rattle.basis.proofs.Weigh.{bit-most, distinct-most, most-distinct, distinct-map}
 use Rattle.limits.specs.Limits.{circuitRoom}
 use Rattle.lightpath.specs.Circuit.{blankCircuit}
 use Rattle.lightpath.specs.declared.Circuit.{Circuit}
@@ -183,14 +183,6 @@ beside-end cs ns n i h l m = let e : i ≡ n = omega arith in rw e at (h .are)
 pub ruleset beside = (beside-start, beside-next, beside-end)
 
 -- numbers are distinct where those of the circuits are
-tally-map : (k : ℕ) (cs : List Circuit) → tally (λ k. k) k (map (λ c. c .number) cs) ≡ tally (λ c. c .number) k cs
-tally-map k [] = refl
-tally-map k (x ∷ cs) = rw (tally-map k cs)
-
-distinct-map : (cs : List Circuit) → distinct (λ k. k) (map (λ c. c .number) cs) ≡ distinct (λ c. c .number) cs
-distinct-map [] = refl
-distinct-map (x ∷ cs) = rw (tally-map (x .number) cs, distinct-map cs)
-
 pub numbers-distinct : (cs : List Circuit) (ns : List ℕ) (n : ℕ) (r : Bool) → take n ns ≡ map (λ c. c .number) (take n cs) → r ≡ distinct (λ k. k) (take n ns)
     → r ≡ distinct (λ c. c .number) (take n cs)
-numbers-distinct cs ns n r e h = h ∙ ap (distinct (λ k. k)) e ∙ distinct-map (take n cs)
+numbers-distinct cs ns n r e h = h ∙ ap (distinct (λ k. k)) e ∙ distinct-map (λ c. c .number) (take n cs)

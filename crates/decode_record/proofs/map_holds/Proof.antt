@@ -1,8 +1,7 @@
 -- `decode_record::map_holds` meets its contract. Assumes nothing.
 use borrow.Author.Needs.{needs}
-use Rattle.basis.proofs.Branch.{branch, not-said}
+use Rattle.basis.proofs.Branch.{nor-stop, nor-next, not-said, branch}
 use Rattle.form.specs.Reading.{mapHolds}
-use Rattle.decode_record.proofs.Records.{mapRules}
 use Rattle.decode_record.proofs.map_holds.Statement.{statement}
 use Rattle.decode_record.proofs.map_holds.Tie as tie
 
@@ -18,14 +17,14 @@ stands-requires-2 c κs = search needs
 
 returns-2 : tie.Need-returns-2
 unfolding mapHolds
-returns-2 c = search (needs, branch, mapRules)
+returns-2 c = search (needs, branch, nor-stop)
 
 stands-requires-3 : tie.Need-stands-requires-3
 stands-requires-3 c κs = search needs
 
 returns-3 : tie.Need-returns-3
 unfolding mapHolds
-returns-3 c = search (needs, branch, not-said, mapRules)
+returns-3 c = search (needs, branch, nor-next, not-said)
 
 returns-4 : tie.Need-returns-4
 unfolding mapHolds
