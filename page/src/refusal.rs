@@ -1,28 +1,37 @@
 //! Refusals in words: what each means, and what a desk does next.
 
+use std::fmt::Display;
+use std::str::FromStr;
+
 use crate::step::Step;
 use crate::table::{Circuit, Table};
-use crate::words::{capital, count, listed, Telling};
+use crate::words::{capital, count, frequency, listed, Telling};
 
 /// The words of an opening: `open` and its five numbers.
 const OPENING_WORDS: usize = 6;
 
+/// The words of a line that names a plan of frequencies: `frequency` or `wavelength` and its three
+/// numbers.
+const PLAN_WORDS: usize = 4;
+
 /// A line that is no request.
 pub fn tell_line(step: &Step) -> Telling {
+    let first = step.words()[0];
     let words = step.request.split_whitespace().count();
     let (reason, next) = match step.before {
-        None => (
-            "No ring is lit yet, so only a line that lights or reads one can be taken.",
+        None if !matches!(first, "frequency" | "wavelength") => (
+            "No ring is lit yet, so only a line that lights or reads one, or asks for a frequency \
+             or its wavelength, can be taken.",
             "Light a ring first, or correct the line.",
         ),
-        Some(_) if step.words()[0] == "open" && words != OPENING_WORDS => (
+        Some(_) if first == "open" && words != OPENING_WORDS => (
             "An opening has five numbers: the circuit's own, its source, its destination, its \
              remark and its account. A remark or account of 0 is none.",
             "Correct the line.",
         ),
-        Some(_) => (
-            "It may have a misspelt word, two spaces, a word too many or too few, a number too \
-             wide for its field, or too many bytes.",
+        _ => (
+            "It may have a misspelt word, two spaces, a word too many or too few, a sign, point or \
+             comma that may not stand there, a number too wide for its field, or too many bytes.",
             "Correct the line.",
         ),
     };
@@ -39,6 +48,7 @@ pub fn tell(step: &Step, number: u32) -> Telling {
         ("ring", _) => ring(step, number),
         ("read", _) => form(number),
         ("link", _) => link(step, number),
+        ("frequency" | "wavelength", _) => plan(step, number),
         _ => order(step, number),
     };
     Telling {
@@ -103,6 +113,41 @@ fn link(step: &Step, number: u32) -> Told {
             "Ask for 0, clockwise, or 1, counterclockwise.",
         ),
     }
+}
+
+fn plan(step: &Step, number: u32) -> Told {
+    match number {
+        41 => (
+            format!("The spacing{} is not 125, 250, 500 or 1000.", aside(planned::<u32>(step, 1))),
+            "Write it in counts of 100 MHz: 50 GHz is 500, and 50 is refused.",
+        ),
+        42 => (
+            format!("The starting n{} is not -200 to 200.", aside(planned::<i32>(step, 2))),
+            "Look the plan up; to begin further from 193.1 THz, take a wider spacing.",
+        ),
+        16 => (
+            format!("The wavelength{} is above 63.", aside(planned::<u32>(step, 3))),
+            "Look up the wavelength's number; if this is a place, halve it and round down.",
+        ),
+        _ => (
+            format!(
+                "The frequency{} is that of no wavelength of the plan: it is below the plan, above \
+                 it, or between two of its points.",
+                aside(planned(step, 3).map(frequency))
+            ),
+            "Look up spacing and start, or measure again; another ring may have another plan.",
+        ),
+    }
+}
+
+/// A number of a line that names a plan; nothing where the line is too long to be shown whole.
+fn planned<T: FromStr>(step: &Step, position: usize) -> Option<T> {
+    let words = step.words();
+    words.get(position).filter(|_| words.len() == PLAN_WORDS)?.parse().ok()
+}
+
+fn aside<T: Display>(said: Option<T>) -> String {
+    said.map_or_else(String::new, |said| format!(", {said},"))
 }
 
 fn order(step: &Step, number: u32) -> Told {

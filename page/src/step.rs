@@ -33,7 +33,15 @@ pub enum Outcome {
     LineRefused,
     /// `read` or `write` of a file that cannot be had.
     Failed,
-    /// The answer to a question, which changes nothing.
+    /// The frequency of a wavelength by a plan, in counts of 100 MHz.
+    Frequency {
+        count: u32,
+    },
+    /// The wavelength of a plan at a frequency.
+    Wavelength {
+        number: u8,
+    },
+    /// The answer to another question. No question changes anything.
     Told,
 }
 
@@ -108,7 +116,7 @@ pub fn outcome_of(answer: &[String]) -> Option<Outcome> {
     let words: Vec<&str> = answer.first()?.split(' ').collect();
     Some(match words[..] {
         ["line", "refused"] => Outcome::LineRefused,
-        ["ring" | "close" | "read" | "link", "refused", refusal]
+        ["ring" | "close" | "read" | "link" | "frequency" | "wavelength", "refused", refusal]
         | ["open", _, "refused", refusal] => Outcome::Refused { number: refusal.parse().ok()? },
         ["ring", _, "wavelengths", _] => Outcome::Ring,
         ["read", _, "wavelengths", _] => Outcome::Read,
@@ -119,6 +127,8 @@ pub fn outcome_of(answer: &[String]) -> Option<Outcome> {
         },
         ["close", number] => Outcome::Closed { number: number.parse().ok()? },
         ["read" | "write", "failed"] => Outcome::Failed,
+        ["frequency", count] => Outcome::Frequency { count: count.parse().ok()? },
+        ["wavelength", number] => Outcome::Wavelength { number: number.parse().ok()? },
         _ => Outcome::Told,
     })
 }
@@ -152,14 +162,19 @@ mod tests {
         assert_eq!(outcome("close 13"), Some(Outcome::Closed { number: 13 }));
         assert_eq!(outcome("write failed"), Some(Outcome::Failed));
         assert_eq!(outcome("link none"), Some(Outcome::Told));
-        for refused in ["ring refused 10", "open 3 refused 10", "close refused 10"] {
-            assert_eq!(outcome(refused), Some(Outcome::Refused { number: 10 }));
+        assert_eq!(outcome("frequency 1929500"), Some(Outcome::Frequency { count: 1_929_500 }));
+        assert_eq!(outcome("wavelength 63"), Some(Outcome::Wavelength { number: 63 }));
+        for line in ["ring", "open 3", "close", "read", "link", "frequency", "wavelength"] {
+            let refused = outcome(&format!("{line} refused 16"));
+            assert_eq!(refused, Some(Outcome::Refused { number: 16 }), "{line}");
         }
         let opened = outcome("open 15 place 2 moves 1 looks 2\nmove 12 from 1 to 0");
         let moves = vec![Move { number: 12, from: 1, to: 0 }];
         assert_eq!(opened, Some(Outcome::Opened { number: 15, moves, looks: 2 }));
         assert_eq!(outcome(""), None);
         assert_eq!(outcome("open 15 place 2 moves 1 looks 2\nmove 12"), None);
+        assert_eq!(outcome("frequency 192.95"), None);
+        assert_eq!(outcome("wavelength none"), None);
     }
 
     fn step(outcome: Outcome) -> Step {

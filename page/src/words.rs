@@ -46,8 +46,20 @@ pub fn tell(step: &Step) -> Telling {
             next: None,
         }),
         Outcome::Closed { number } => tell_closing(step, *number),
-        Outcome::Told => Telling::plain(told(&step.answer[0]) + " Nothing changed."),
+        Outcome::Frequency { count } => tell_answer(format!(
+            "By this plan the wavelength has the frequency {}, both ways round.",
+            frequency(*count)
+        )),
+        Outcome::Wavelength { number } => tell_answer(format!(
+            "By this plan the frequency is wavelength {number}: {} on a ring that has it.",
+            places(*number)
+        )),
+        Outcome::Told => tell_answer(told(&step.answer[0])),
     }
+}
+
+fn tell_answer(told: String) -> Telling {
+    Telling::plain(told + " Nothing changed.")
 }
 
 fn told(answer: &str) -> String {
@@ -113,6 +125,19 @@ pub fn count(number: usize, noun: &str) -> String {
     }
 }
 
+/// A count of 100 MHz, and the same in THz: `1929500 (192.95 THz)`.
+pub fn frequency(count: u32) -> String {
+    let part = format!("{:04}", count % 10_000);
+    let (tenths, rest) = part.split_at(1);
+    format!("{count} ({}.{tenths}{} THz)", count / 10_000, rest.trim_end_matches('0'))
+}
+
+/// The two places of a wavelength.
+fn places(wavelength: u8) -> String {
+    let even = 2 * u32::from(wavelength);
+    format!("place {even} clockwise and place {} counterclockwise", even + 1)
+}
+
 /// A small number as a word.
 pub fn spelled(number: usize) -> String {
     match number {
@@ -170,5 +195,29 @@ mod tests {
         assert_eq!(listed::<u8>(&[]), "");
         assert_eq!(capital("both"), "Both");
         assert_eq!(spelled(3), "three");
+    }
+
+    #[test]
+    fn frequencies_are_exact_in_terahertz() {
+        for (count, expected) in [
+            (1_929_500, "1929500 (192.95 THz)"),
+            (1_930_000, "1930000 (193.0 THz)"),
+            (1_930_002, "1930002 (193.0002 THz)"),
+            (1_930_500, "1930500 (193.05 THz)"),
+            (1_931_000, "1931000 (193.1 THz)"),
+            (1_963_875, "1963875 (196.3875 THz)"),
+            (2_000_000, "2000000 (200.0 THz)"),
+            (0, "0 (0.0 THz)"),
+            (1, "1 (0.0001 THz)"),
+            (u32::MAX, "4294967295 (429496.7295 THz)"),
+        ] {
+            assert_eq!(frequency(count), expected);
+        }
+    }
+
+    #[test]
+    fn a_wavelength_has_two_places() {
+        assert_eq!(places(0), "place 0 clockwise and place 1 counterclockwise");
+        assert_eq!(places(63), "place 126 clockwise and place 127 counterclockwise");
     }
 }

@@ -12,6 +12,7 @@ use common::xml::{parse, Element};
 use ringpage::day::{self, Choice, Day};
 use ringpage::drawing::View;
 use ringpage::picture::picture;
+use ringpage::words::tell;
 use ringpage::{chart, page, ring, ringplan};
 
 fn top() -> PathBuf {
@@ -118,6 +119,45 @@ fn an_account_is_shown_from_the_opening_on() {
     let text = page::page("accounts", &day);
     assert!(text.contains(">7: 1\u{2192}2, account 12 (new)</text>"));
     assert!(text.contains(">7: 1\u{2192}2, account 12 + 8: 2\u{2192}1 (new)</text>"));
+}
+
+/// The lines that need no ring, as `ringplan` answers them before one is lit and after.
+#[test]
+fn frequencies_are_told_before_and_after_a_ring() {
+    let lines = "frequency 500 -3 0\nfrequency 50 -3 0\nfrequency 500 201 0\n\
+                 frequency 500 -3 64\nwavelength 500 -3 1930500\nwavelength 50 -3 1\n\
+                 wavelength 500 -201 1\nwavelength 500 -3 1930002\nfrequency 500 +3 0\n";
+    let script = format!("{lines}ring 3 1 1 1\n{lines}");
+    let steps = run(script.as_bytes(), None).steps;
+    let points: Vec<String> = steps.iter().map(|step| tell(step).point).collect();
+    for (point, expected) in points.iter().zip([
+        "By this plan the wavelength has the frequency 1929500 (192.95 THz),",
+        "The spacing, 50, is not",
+        "The starting n, 201, is not",
+        "The wavelength, 64, is above 63.",
+        "By this plan the frequency is wavelength 2: place 4 clockwise",
+        "The spacing, 50, is not",
+        "The starting n, -201, is not",
+        "The frequency, 1930002 (193.0002 THz), is that of no wavelength",
+        "The line is no request,",
+        "A ring of 3 nodes was lit.",
+    ]) {
+        assert!(point.starts_with(expected), "{point}");
+    }
+    assert_eq!(points[..9], points[10..]);
+    assert!(steps[8].after.is_none() && steps[9].after.is_some());
+}
+
+#[test]
+fn every_line_of_the_lasers_is_explained() {
+    let script = fs::read(top().join("examples/lasers.plan")).expect("an example");
+    let day = run(&script, Some((1, usize::MAX)));
+    assert_good(&page::page("lasers", &day));
+    for step in day.steps {
+        let point = tell(&step).point;
+        let fallback = point.contains("A question was answered") || point.contains("refused by");
+        assert!(!fallback, "{}: {point}", step.request);
+    }
 }
 
 #[test]

@@ -3,6 +3,7 @@
 mod common;
 
 use common::rings::{opening_107, step, table, Row, AFTER_107, FILLING_PORTS};
+use ringpage::ringplan::printable;
 use ringpage::step::Step;
 use ringpage::words::{tell, Telling};
 
@@ -290,6 +291,66 @@ fn refusals_say_who_is_in_the_way() {
     }
 }
 
+/// A line that needs no ring, told before any is lit and on a ring that fills up: the same words.
+fn with_and_without_a_ring(request: &str, answer: &str) -> Telling {
+    let alone = tell(&step(request, answer, None, None));
+    assert_eq!(on_filling(request, answer, &AFTER_107, &AFTER_107), alone, "{request}");
+    alone
+}
+
+const NO_WAVELENGTH: &str =
+    "is that of no wavelength of the plan: it is below the plan, above it, or between two of its \
+     points.";
+
+#[test]
+fn refusals_of_frequencies() {
+    let spacing = "Write it in counts of 100 MHz: 50 GHz is 500, and 50 is refused.";
+    let start = "Look the plan up; to begin further from 193.1 THz, take a wider spacing.";
+    let wavelength =
+        "Look up the wavelength's number; if this is a place, halve it and round down.";
+    let frequency =
+        "Look up spacing and start, or measure again; another ring may have another plan.";
+    let nowhere = |frequency: &str| format!("The frequency, {frequency}, {NO_WAVELENGTH}");
+    for (request, number, point, next) in [
+        ("frequency 50 -3 0", 41, "The spacing, 50, is not 125, 250, 500 or 1000.".into(), spacing),
+        ("frequency 500 -201 0", 42, "The starting n, -201, is not -200 to 200.".into(), start),
+        ("frequency 500 201 64", 42, "The starting n, 201, is not -200 to 200.".into(), start),
+        ("frequency 500 -3 064", 16, "The wavelength, 64, is above 63.".into(), wavelength),
+        ("wavelength 0 -3 1", 41, "The spacing, 0, is not 125, 250, 500 or 1000.".into(), spacing),
+        (
+            "wavelength 500 -2147483648 1",
+            42,
+            "The starting n, -2147483648, is not -200 to 200.".into(),
+            start,
+        ),
+        ("wavelength 500 -3 1930002", 43, nowhere("1930002 (193.0002 THz)"), frequency),
+        ("wavelength 500 -3 4294967295", 43, nowhere("4294967295 (429496.7295 THz)"), frequency),
+    ] {
+        let kind = request.split(' ').next().unwrap_or("");
+        let told = with_and_without_a_ring(request, &format!("{kind} refused {number}"));
+        let reason = format!("Refusal {number}. A refused request changes nothing.");
+        assert_eq!(told, Telling { point, reasons: vec![reason], next: Some(next.into()) });
+    }
+}
+
+#[test]
+fn a_number_that_is_not_shown_whole_is_not_named() {
+    let zeros = "0".repeat(400);
+    for (request, answer, expected) in [
+        (format!("frequency {zeros}50 -3 0"), "frequency refused 41", "The spacing is not 125,"),
+        (format!("frequency 500 -{zeros}201 0"), "frequency refused 42", "The starting n is not"),
+        (format!("frequency 500 -3 {zeros}64"), "frequency refused 16", "The wavelength is above"),
+        (
+            format!("wavelength 500 -3 {zeros}7"),
+            "wavelength refused 43",
+            "The frequency is that of",
+        ),
+    ] {
+        let point = with_and_without_a_ring(&printable(request.as_bytes()), answer).point;
+        assert!(point.starts_with(expected), "{point}");
+    }
+}
+
 #[test]
 fn a_busy_far_end_is_never_a_full_ring() {
     let (point, next) = refused("open 9 5 2 0 0", "open 9 refused 14");
@@ -317,7 +378,11 @@ fn refused_lines() {
         let step: Step = step("opne 1 2 3 0", "line refused", before.clone(), before);
         tell(&step)
     };
-    assert!(told(None).reasons[0].starts_with("No ring is lit yet"));
+    assert_eq!(
+        told(None).reasons,
+        ["No ring is lit yet, so only a line that lights or reads one, or asks for a frequency or \
+          its wavelength, can be taken."]
+    );
     assert!(told(Some(table(&[1, 1, 1], &[]))).reasons[0].contains("misspelt"));
     let opening = |line| {
         let ring = || Some(table(&[1, 1, 1], &[]));
@@ -325,6 +390,18 @@ fn refused_lines() {
     };
     assert!(opening("open 1 2 3 0") && opening("open 1 2 3 0 0 0"));
     assert!(!opening("open 1 2 3 0 x") && !opening("open 1 2  3 0 0"));
+}
+
+#[test]
+fn refused_lines_that_need_no_ring() {
+    for line in ["frequency 500 +3 0", "frequency 12.5 -3 0", "wavelength 500 -3 1,929,500"] {
+        let told = with_and_without_a_ring(line, "line refused");
+        assert!(
+            told.reasons[0].contains("a sign, point or comma that may not stand there"),
+            "{line}"
+        );
+        assert_eq!(told.next.as_deref(), Some("Correct the line."));
+    }
 }
 
 #[test]
@@ -337,5 +414,37 @@ fn questions_change_nothing() {
         ("anything", "A question was answered. Nothing changed."),
     ] {
         assert_eq!(on_filling("..", answer, &[], &[]).point, expected);
+    }
+}
+
+#[test]
+fn frequencies_and_their_wavelengths() {
+    for (request, answer, expected) in [
+        (
+            "frequency 500 -3 0",
+            "frequency 1929500",
+            "By this plan the wavelength has the frequency 1929500 (192.95 THz), both ways round. \
+             Nothing changed.",
+        ),
+        (
+            "frequency 125 200 63",
+            "frequency 1963875",
+            "By this plan the wavelength has the frequency 1963875 (196.3875 THz), both ways round. \
+             Nothing changed.",
+        ),
+        (
+            "wavelength 500 -3 1930000",
+            "wavelength 1",
+            "By this plan the frequency is wavelength 1: place 2 clockwise and place 3 \
+             counterclockwise on a ring that has it. Nothing changed.",
+        ),
+        (
+            "wavelength 500 -3 1961000",
+            "wavelength 63",
+            "By this plan the frequency is wavelength 63: place 126 clockwise and place 127 \
+             counterclockwise on a ring that has it. Nothing changed.",
+        ),
+    ] {
+        assert_eq!(with_and_without_a_ring(request, answer), Telling::plain(expected));
     }
 }

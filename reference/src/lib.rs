@@ -8,6 +8,7 @@ pub mod coverage;
 pub mod files;
 pub mod form;
 pub mod generator;
+pub mod grid;
 pub mod lines;
 pub mod opening;
 pub mod place;

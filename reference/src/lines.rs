@@ -51,3 +51,12 @@ pub fn number(word: &[u8], most: u64) -> Option<u64> {
     }
     Some(value)
 }
+
+/// The value of a number of 32 bits that has `-` before its digits where it is below zero.
+pub fn signed_number(word: &[u8]) -> Option<i32> {
+    let (digits, sign, most) = match word.strip_prefix(b"-") {
+        Some(digits) => (digits, -1, i64::from(i32::MIN).unsigned_abs()),
+        None => (word, 1, i32::MAX as u64),
+    };
+    number(digits, most).map(|value| (sign * value as i64) as i32)
+}

@@ -9,10 +9,12 @@ use std::path::{Path, PathBuf};
 use crate::circuit::Circuit;
 use crate::files;
 use crate::form::{self, form_of};
-use crate::lines::{for_each_line, number, words};
+use crate::grid::FrequencyPlan;
+use crate::lines::{for_each_line, number, signed_number, words};
+use crate::place::Wavelength;
 use crate::refusal::Refusal;
 use crate::report;
-use crate::script::{self, Desk, Request};
+use crate::script::{self, four_bytes, Desk, Request};
 use crate::table::{Lightpath, Table};
 
 /// The longest line taken, without its line end; the script program's lines keep their own limit.
@@ -23,6 +25,8 @@ pub const LINE_MOST: usize = 8192;
 pub enum Command {
     Script(Request),
     Read(Source),
+    Frequency { plan: FrequencyPlan, wavelength: u32 },
+    Wavelength { plan: FrequencyPlan, frequency: u32 },
     Ask(Question),
 }
 
@@ -53,6 +57,10 @@ pub enum Answer {
     },
     ReadRefused(Refusal),
     ReadFailed,
+    Frequency(u32),
+    FrequencyRefused(Refusal),
+    Wavelength(Wavelength),
+    WavelengthRefused(Refusal),
     Written(Vec<u8>),
     FileWritten {
         length: usize,
@@ -94,6 +102,8 @@ impl Planner {
         match parse(line) {
             Some(Command::Script(request)) => Answer::Script(self.desk.run(&request)),
             Some(Command::Read(source)) => self.read(source),
+            Some(Command::Frequency { plan, wavelength }) => frequency(plan, wavelength),
+            Some(Command::Wavelength { plan, frequency }) => wavelength(plan, frequency),
             Some(Command::Ask(question)) => match self.table() {
                 Some(table) => question.answer(table),
                 None => LINE_REFUSED,
@@ -118,6 +128,20 @@ impl Planner {
             }
             Err(refusal) => Answer::ReadRefused(refusal),
         }
+    }
+}
+
+fn frequency(plan: FrequencyPlan, wavelength: u32) -> Answer {
+    match plan.frequency(wavelength) {
+        Ok(frequency) => Answer::Frequency(frequency),
+        Err(refusal) => Answer::FrequencyRefused(refusal),
+    }
+}
+
+fn wavelength(plan: FrequencyPlan, frequency: u32) -> Answer {
+    match plan.wavelength(frequency) {
+        Ok(wavelength) => Answer::Wavelength(wavelength),
+        Err(refusal) => Answer::WavelengthRefused(refusal),
     }
 }
 
@@ -160,6 +184,14 @@ pub fn parse(line: &[u8]) -> Option<Command> {
     let mut words = words(line);
     let command = match words.next()? {
         b"read" => Command::Read(source(words.next()?)?),
+        b"frequency" => Command::Frequency {
+            plan: frequency_plan(&mut words)?,
+            wavelength: four_bytes(words.next()?)?,
+        },
+        b"wavelength" => Command::Wavelength {
+            plan: frequency_plan(&mut words)?,
+            frequency: four_bytes(words.next()?)?,
+        },
         b"write" => Command::Ask(match words.next() {
             None => Question::Write,
             Some(word) => Question::WriteFile(path(word)?),
@@ -177,6 +209,14 @@ pub fn parse(line: &[u8]) -> Option<Command> {
         None => Some(command),
         Some(_) => None,
     }
+}
+
+/// A plan as two words name it.
+fn frequency_plan<'a>(words: &mut impl Iterator<Item = &'a [u8]>) -> Option<FrequencyPlan> {
+    Some(FrequencyPlan {
+        spacing: four_bytes(words.next()?)?,
+        start: signed_number(words.next()?)?,
+    })
 }
 
 /// A saved form: `@` and a path, hexadecimal digits, or `-` for no bytes.
@@ -220,6 +260,14 @@ impl Answer {
             }
             Answer::ReadRefused(refusal) => writeln!(out, "read refused {}", refusal.number()),
             Answer::ReadFailed => writeln!(out, "read failed"),
+            Answer::Frequency(frequency) => writeln!(out, "frequency {frequency}"),
+            Answer::FrequencyRefused(refusal) => {
+                writeln!(out, "frequency refused {}", refusal.number())
+            }
+            Answer::Wavelength(wavelength) => writeln!(out, "wavelength {}", wavelength.0),
+            Answer::WavelengthRefused(refusal) => {
+                writeln!(out, "wavelength refused {}", refusal.number())
+            }
             Answer::Written(form) => writeln!(out, "write {} {}", form.len(), hexadecimal(form)),
             Answer::FileWritten { length } => writeln!(out, "write {length}"),
             Answer::WriteFailed => writeln!(out, "write failed"),

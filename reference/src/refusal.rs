@@ -1,4 +1,4 @@
-//! The refusals, with the numbers of document 01.
+//! The refusals, with the numbers of documents 01 and 02.
 
 #[derive(Clone, Copy, PartialEq, Eq, PartialOrd, Ord, Debug)]
 #[repr(u8)]
@@ -16,7 +16,7 @@ pub enum Refusal {
     NoTransmitter = 13,
     NoReceiver = 14,
     NumberNotLive = 15,
-    /// The wavelength is not below W.
+    /// The wavelength is not below W, or on a frequency plan above 63.
     NoWavelength = 16,
     /// The direction is neither 0 nor 1.
     NoDirection = 17,
@@ -34,6 +34,12 @@ pub enum Refusal {
     FormTail = 32,
     /// The form's table breaks a ring rule.
     FormRules = 33,
+    /// The spacing is none of 12.5, 25, 50 and 100 GHz.
+    NoSpacing = 41,
+    /// The starting n is not −200 to 200.
+    NoStart = 42,
+    /// No wavelength of the plan stands at the frequency.
+    OffPlan = 43,
 }
 
 impl Refusal {

@@ -163,7 +163,7 @@ fn two_bytes(word: &[u8]) -> Option<u16> {
     number(word, u64::from(u16::MAX)).map(|value| value as u16)
 }
 
-fn four_bytes(word: &[u8]) -> Option<u32> {
+pub(crate) fn four_bytes(word: &[u8]) -> Option<u32> {
     number(word, u64::from(u32::MAX)).map(|value| value as u32)
 }
 

@@ -1,4 +1,4 @@
-//! What lines count as: the steps, circuits with their returns, accounts.
+//! What lines count as: the steps, circuits with their returns, accounts, frequency plans.
 
 mod common;
 
@@ -7,7 +7,7 @@ use common::{
     standing,
 };
 use ring::circuit::Circuit;
-use ring::coverage::{Coverage, Event, SCRIPT_EVENTS};
+use ring::coverage::{grid_events, Coverage, Event, GridEvent, LineFault, Off, Way, SCRIPT_EVENTS};
 use ring::form::{write, Fault, FORM_MOST};
 use ring::place::Direction::{Clockwise, Counterclockwise};
 use ring::place::Place;
@@ -199,4 +199,87 @@ fn forms_with_a_circuit_and_its_return() {
     assert_eq!(reads(2, 2), (1, 0));
     assert_eq!(reads(3, 2), (0, 1));
     assert_eq!(reads(2, 4), (0, 0));
+}
+
+/// The events of a line on a frequency plan that follows a ring; all have its first word.
+fn grid_events_of(line: &str) -> Vec<GridEvent> {
+    let coverage = coverage_of(&["ring 3 1 1 1", line]);
+    let way = if line.starts_with("frequency") { Way::There } else { Way::Back };
+    let of_line = |event: Event| match event {
+        Event::Grid(its_way, event) if its_way == way => event,
+        _ => panic!("{event} at {line}"),
+    };
+    let reached = grid_events().into_iter().filter(|&event| coverage.count(event) > 0);
+    reached.map(of_line).collect()
+}
+
+#[test]
+fn frequencies_and_wavelengths_found() {
+    use GridEvent::*;
+    let found = |spacing| Found { spacing };
+    assert_eq!(grid_events_of("frequency 125 0 0"), [found(125)]);
+    assert_eq!(grid_events_of("wavelength 1000 0 1931000"), [found(1000)]);
+    assert_eq!(grid_events_of("frequency 250 -0 63"), [found(250), StartMinusZero]);
+    assert_eq!(grid_events_of("wavelength 500 -00 1931000"), [found(500), StartMinusZero]);
+    assert_eq!(grid_events_of("frequency 500 -1 0"), [found(500), StartBelowZero]);
+    assert_eq!(grid_events_of("wavelength 500 1 1931500"), [found(500), StartAboveZero]);
+    let lowest = [found(500), StartBelowZero, LowestPoint];
+    assert_eq!(grid_events_of("frequency 500 -200 0"), lowest);
+    assert_eq!(grid_events_of("wavelength 500 -200 1831000"), lowest);
+    let highest = [found(500), StartAboveZero, HighestPoint];
+    assert_eq!(grid_events_of("frequency 500 200 63"), highest);
+    assert_eq!(grid_events_of("wavelength 500 200 2062500"), highest);
+    assert_eq!(grid_events_of("frequency 500 200 0"), [found(500), StartAboveZero]);
+    let coverage = coverage_of(&["frequency 500 -07 0", "wavelength 500 0 0"]);
+    assert_eq!(coverage.count(Event::Grid(Way::There, BeforeTable)), 1);
+    assert_eq!(coverage.count(Event::Grid(Way::Back, BeforeTable)), 1);
+    assert_eq!(coverage.count(Event::LeadingZeroGood), 1);
+}
+
+#[test]
+fn refusals_of_frequency_plans() {
+    use GridEvent::*;
+    let first = |number| [Refused(number), RefusedFirst(number)];
+    assert_eq!(grid_events_of("frequency 1 0 0"), [Refused(41)]);
+    assert_eq!(grid_events_of("frequency 1 201 0"), first(41));
+    assert_eq!(grid_events_of("frequency 1 0 64"), first(41));
+    assert_eq!(grid_events_of("frequency 125 201 63"), [Refused(42)]);
+    assert_eq!(grid_events_of("frequency 125 201 64"), first(42));
+    assert_eq!(grid_events_of("frequency 125 200 64"), [Refused(16)]);
+    assert_eq!(grid_events_of("wavelength 1 0 1931000"), [Refused(41)]);
+    assert_eq!(grid_events_of("wavelength 1 201 1931000"), first(41));
+    assert_eq!(grid_events_of("wavelength 1 0 1931001"), first(41));
+    assert_eq!(grid_events_of("wavelength 500 201 1931000"), [Refused(42)]);
+    assert_eq!(grid_events_of("wavelength 500 201 1931125"), first(42));
+    let off = |frequency: u32| grid_events_of(&format!("wavelength 500 0 {frequency}"));
+    assert_eq!(off(1_930_500), [RefusedOffPlan(Off::Below)]);
+    assert_eq!(off(1_930_501), [RefusedOffPlan(Off::LessThanSpacingBelow)]);
+    assert_eq!(off(1_930_999), [RefusedOffPlan(Off::LessThanSpacingBelow)]);
+    assert_eq!(off(1_931_001), [RefusedOffPlan(Off::Between)]);
+    assert_eq!(off(1_962_499), [RefusedOffPlan(Off::Between)]);
+    assert_eq!(off(1_962_501), [RefusedOffPlan(Off::Above)]);
+}
+
+#[test]
+fn lines_on_frequency_plans_that_are_not_well_formed() {
+    let lines = [
+        ("500 0", LineFault::TooFewWords),
+        ("500 0 0 0", LineFault::TooManyWords),
+        ("500 +3 0", LineFault::OddStart),
+        ("500 - 0", LineFault::OddStart),
+        ("500 --3 -0", LineFault::OddStart),
+        ("-500 3 0", LineFault::OddNumber),
+        ("500 -3 -0", LineFault::OddNumber),
+        ("500 2147483648 0", LineFault::WideStart),
+        ("500 -2147483649 0", LineFault::WideStart),
+        ("4294967296 -2147483648 0", LineFault::WideNumber),
+        ("500 0 4294967296", LineFault::WideNumber),
+    ];
+    for (numbers, fault) in lines {
+        for word in ["frequency", "wavelength"] {
+            let line = format!("{word} {numbers}");
+            assert_eq!(grid_events_of(&line), [GridEvent::LineRefused(fault)], "{line}");
+        }
+    }
+    assert_eq!(grid_events_of("frequencies 500 0 0"), []);
 }

@@ -47,6 +47,7 @@ fn is_refused_line(line: &str) {
 
 example!(example_accounts, "accounts", ".plan");
 example!(example_forms, "forms", ".plan");
+example!(example_lasers, "lasers", ".plan");
 example!(example_planning, "planning", ".plan");
 example!(example_saved, "saved", ".plan");
 
@@ -246,7 +247,7 @@ fn accounts_are_written_read_and_listed() {
 }
 
 #[test]
-fn only_reading_and_rings_need_no_table() {
+fn questions_of_the_table_openings_and_closings_need_one() {
     let path = Folder::new("no_table");
     let file = path.file("form");
     let lines = format!(
@@ -263,8 +264,6 @@ fn only_reading_and_rings_need_no_table() {
 fn lines_of_other_releases_and_the_picture_are_refused() {
     let lines = [
         "show",
-        "frequency 500 0 1",
-        "wavelength 500 0 1931000",
         "tidy",
         "from 1",
         "ends 1 1 2",

@@ -63,7 +63,7 @@ fn lines_end_at_lf() {
 
 #[test]
 fn lines_that_are_no_request() {
-    let lines: [&[u8]; 26] = [
+    let lines: [&[u8]; 28] = [
         b"\n",
         b" \n",
         b"ring\n",
@@ -90,6 +90,8 @@ fn lines_that_are_no_request() {
         b"open 1 1 2 0 0 0\n",
         b"close 1\0\n",
         b"close \xB2\n",
+        b"frequency 500 -3 0\n",
+        b"wavelength 500 -3 1929500\n",
     ];
     lines.into_iter().for_each(is_refused_line);
 }

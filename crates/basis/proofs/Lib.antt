@@ -1,4 +1,4 @@
--- The laws of tests, searches, weights and sums, and of the loops that search and add.
+-- The laws of tests, searches, weights and sums, of the loops that search and add, and of integers.
 pub mod Bools
 pub mod Branch
 pub mod Search
@@ -10,3 +10,4 @@ pub mod Arrays
 pub mod Weigh
 pub mod Sums
 pub mod Fold
+pub mod Integers

@@ -1,14 +1,16 @@
 -- The numbers below a bound and the elements of a list: every one, and the first that passes a test. Assumes nothing.
 use Prim.Native.Nat.{ℕ, zero, suc, _≤_, _<_, suc-le-suc}
 use mathlib.Core.Path.{_≡_, refl, sym, ap}
-use mathlib.Core.Bool.{Bool, true, false, _&&_, and-false}
+use mathlib.Core.Bool.{Bool, true, false, _&&_, not, and-false}
 use mathlib.Core.List.{List, [], _∷_}
 use native.Mathlib.Nat.{le-of-suc-le-suc, not-suc-le-zero}
 use native.Mathlib.Omega.{arith}
+use lib.Dec.{leb}
 use lib.ListN.{length, getD}
+use borrow.Author.Tests.{leb-true, le-leb, not-true}
 use Rattle.basis.specs.Count.{All}
 use Rattle.basis.specs.Search.{everyBelow, firstBelow, firstPlace}
-use Rattle.basis.proofs.Bools.{and-left, and-right, and-both}
+use Rattle.basis.proofs.Bools.{and-left, and-right, and-both, same-test}
 
 -- where every number below n passes, each does
 pub every-at : (n : ℕ) (f : ℕ → Bool) → everyBelow n f ≡ true → (p : ℕ) → p < n → f p ≡ true
@@ -70,6 +72,16 @@ first-only (suc n) f (suc p) l h none =
 pub first-end : (n : ℕ) (f : ℕ → Bool) → ((q : ℕ) → q < n → f q ≡ false) → firstBelow n f ≡ n
 first-end zero f none = refl
 first-end (suc n) f none = rw (none 0 (omega arith)) (ap suc (first-end n (λ p. f (suc p)) (λ q k. none (suc q) (suc-le-suc k))))
+
+-- none is found exactly where every number below n fails
+pub none-found : (n : ℕ) (f : ℕ → Bool) → leb n (firstBelow n f) ≡ everyBelow n (λ p. not (f p))
+none-found n f = same-test (leb n (firstBelow n f)) (everyBelow n (λ p. not (f p))) fail none
+  where
+    fail : leb n (firstBelow n f) ≡ true → everyBelow n (λ p. not (f p)) ≡ true
+    fail h = at-every n (λ p. not (f p)) (λ p l. ap not (none-passes-below n f (leb-true n (firstBelow n f) h) p l))
+
+    none : everyBelow n (λ p. not (f p)) ≡ true → leb n (firstBelow n f) ≡ true
+    none h = let e = first-end n f (λ q l. not-true (f q) (every-at n (λ p. not (f p)) h q l)) in le-leb n (firstBelow n f) (omega arith)
 
 -- of a list too, the first that is found passes
 pub found-passes : {A : Type 0} (f : A → Bool) (d : A) (l : List A) → firstPlace f l < length l → f (getD l (firstPlace f l) d) ≡ true

@@ -15,6 +15,8 @@ use Rattle.moves.specs.declared.Move.{Move}
 use Rattle.moves.specs.Lent.{blanks}
 use Rattle.ports.specs.Ports.{wavelengths}
 use Rattle.refusals.specs.Answer.{Answer as Reply, refusal, verdictAnswer}
+use Rattle.grid.specs.declared.GridPlan.{GridPlan}
+use Rattle.grid.specs.Tuning.{tunedOf, tunedAnswer, carriedOf, carriedAnswer}
 use Rattle.rules.specs.Rules.{Sharing}
 use Rattle.ring.specs.declared.RingTable.{RingTable}
 use Rattle.ring.specs.Making.{makeOf}
@@ -42,6 +44,10 @@ pub data Question : Type 0 where
   saving : RingTable → Question
   -- a form read
   reading : List ℕ → Question
+  -- a wavelength of a plan of frequencies
+  tuning : GridPlan → ℕ → Question
+  -- a frequency, by such a plan
+  tracing : GridPlan → ℕ → Question
 
 -- what it expects
 pub data Answer : Type 0 where
@@ -54,6 +60,8 @@ pub data Answer : Type 0 where
   replied : Reply → List Move → RingTable → Answer
   -- the length of a form, and byte 0 of its map
   saved : ℕ → ℕ → Answer
+  -- the number and values of a frequency or of a wavelength
+  told : Reply → Answer
 
 -- the table after a making, a closing or a reading
 abbrev pub done : RingTable → Answer
@@ -104,6 +112,8 @@ answerTo (making N ks) = replied (verdictAnswer (makeOf N ks .verdict)) [] (make
 answerTo (opening t c) = replied (openingAnswer (openOf t c blanks .answer)) (lentAfter t c blanks) (openOf t c blanks .table)
 answerTo (closing t n) = replied (verdictAnswer (closeOf t n .verdict)) [] (closeOf t n .table)
 answerTo (reading s) = replied (verdictAnswer (readOf s .verdict)) [] (readOf s .table)
+answerTo (tuning p w) = told (tunedAnswer (tunedOf p w))
+answerTo (tracing p f) = told (carriedAnswer (carriedOf p f))
 answerTo (saving t) = saved (length (formOf t)) (getD (formOf t) (mapStart t) 0)
 
 -- a case holds when that is what it expects

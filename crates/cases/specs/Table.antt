@@ -2,6 +2,7 @@
 -- 01's and 02's cases, for a reader to check beside them.
 use Prim.Native.Nat.{ℕ, zero, suc, _+_, _-_, _*_, _%_}
 use mathlib.Core.List.{List, [], _∷_, _++_, map}
+use lib.IntN.{ℤ, pos, negℤ}
 use lib.ListN.{length, replicate}
 use Rattle.lightpath.specs.declared.Direction.the-variants.{Clockwise as clockwise, Counterclockwise as counterclockwise}
 use Rattle.lightpath.specs.declared.Circuit.{Circuit}
@@ -10,10 +11,11 @@ use Rattle.slots.specs.declared.Slot.the-variants.{Unlit as unlit, Alone as alo
 use Rattle.channels.specs.Channels.{unlitChannel}
 use Rattle.moves.specs.declared.Move.{Move}
 use Rattle.moves.specs.Lent.{blanks}
+use Rattle.refusals.specs.Answer.{refusal}
 use Rattle.ring.specs.declared.RingTable.{RingTable}
 use Rattle.ring.specs.Table.{blankTable}
 use Rattle.form.specs.Form.{formOf}
-use Rattle.cases.specs.Case.{pair, pairBeforeE1, ports, making, opening, closing, saving, reading, shares, notAdjacent, dimensions, saved, done, refused, opened, notOpened, Case, _gives_}
+use Rattle.cases.specs.Case.{pair, pairBeforeE1, ports, making, opening, closing, saving, reading, tuning, tracing, Question, shares, notAdjacent, dimensions, saved, told, done, refused, opened, notOpened, Answer, Case, _gives_}
 
 -- a circuit without a remark and without an account: number, source, destination
 abbrev circuit : ℕ → ℕ → ℕ → Circuit
@@ -165,6 +167,77 @@ nodesFrom (suc k) i = i ∷ nodesFrom k (suc i)
 abbrev fullRing : RingTable
 fullRing = ring 64 (replicate 64 3) (map thereAndBack (nodesFrom 64 1) ++ map onward (nodesFrom 64 1))
 
+-- the frequency of wavelength w of the plan with spacing s from n, and the wavelength at frequency f; −n
+abbrev frequency : ℕ → ℤ → ℕ → Question
+frequency s n w = tuning (record { spacing = s; start = n }) w
+
+abbrev wavelength : ℕ → ℤ → ℕ → Question
+wavelength s n f = tracing (record { spacing = s; start = n }) f
+
+abbrev minus : ℕ → ℤ
+minus n = negℤ (pos n)
+
+-- the value told, or the number that refuses
+abbrev is : ℕ → Answer
+is v = told (record { number = 0; values = v ∷ [] })
+
+abbrev isRefused : ℕ → Answer
+isRefused n = told (refusal n)
+
+-- the frequencies of 02's E3
+abbrev frequencies : List Case
+frequencies =
+    -- 50 GHz from −3: its first, second, 193.1 THz and its last, there and back
+    frequency 500 (minus 3) 0 gives is 1929500
+    ∷ frequency 500 (minus 3) 1 gives is 1930000
+    ∷ frequency 500 (minus 3) 3 gives is 1931000
+    ∷ frequency 500 (minus 3) 63 gives is 1961000
+    ∷ wavelength 500 (minus 3) 1929500 gives is 0
+    ∷ wavelength 500 (minus 3) 1930000 gives is 1
+    ∷ wavelength 500 (minus 3) 1931000 gives is 3
+    ∷ wavelength 500 (minus 3) 1961000 gives is 63
+    -- both ends of each spacing's range
+    ∷ frequency 125 (minus 200) 0 gives is 1906000
+    ∷ frequency 250 (minus 200) 0 gives is 1881000
+    ∷ frequency 500 (minus 200) 0 gives is 1831000
+    ∷ frequency 1000 (minus 200) 0 gives is 1731000
+    ∷ frequency 125 (pos 200) 63 gives is 1963875
+    ∷ frequency 250 (pos 200) 63 gives is 1996750
+    ∷ frequency 500 (pos 200) 63 gives is 2062500
+    ∷ frequency 1000 (pos 200) 63 gives is 2194000
+    ∷ wavelength 125 (minus 200) 1906000 gives is 0
+    ∷ wavelength 250 (minus 200) 1881000 gives is 0
+    ∷ wavelength 500 (minus 200) 1831000 gives is 0
+    ∷ wavelength 1000 (minus 200) 1731000 gives is 0
+    ∷ wavelength 125 (pos 200) 1963875 gives is 63
+    ∷ wavelength 250 (pos 200) 1996750 gives is 63
+    ∷ wavelength 500 (pos 200) 2062500 gives is 63
+    ∷ wavelength 1000 (pos 200) 2194000 gives is 63
+    -- the spacing before the start, the start before the wavelength
+    ∷ frequency 120 (pos 201) 64 gives isRefused 41
+    ∷ frequency 125 (pos 201) 64 gives isRefused 42
+    ∷ frequency 125 (minus 201) 0 gives isRefused 42
+    ∷ frequency 125 (pos 200) 64 gives isRefused 16
+    ∷ frequency 125 (pos 200) 256 gives isRefused 16
+    -- and before the frequency
+    ∷ wavelength 0 (pos 201) 0 gives isRefused 41
+    ∷ wavelength 125 (minus 201) 0 gives isRefused 42
+    ∷ wavelength 125 (pos 201) 1931000 gives isRefused 42
+    -- one spacing below the start, 100 MHz below it, 100 MHz above it, half a spacing above it, one spacing above the last
+    ∷ wavelength 500 (minus 3) 1929000 gives isRefused 43
+    ∷ wavelength 500 (minus 3) 1929499 gives isRefused 43
+    ∷ wavelength 500 (minus 3) 1929501 gives isRefused 43
+    ∷ wavelength 500 (minus 3) 1929750 gives isRefused 43
+    ∷ wavelength 500 (minus 3) 1961500 gives isRefused 43
+    -- half a spacing below a start above 0; less than a spacing from 193.1 THz, where a quotient would be 0, either side; the lowest
+    -- frequency that there is, and the highest
+    ∷ wavelength 1000 (pos 3) 1933500 gives isRefused 43
+    ∷ wavelength 1000 (pos 0) 1930001 gives isRefused 43
+    ∷ wavelength 1000 (pos 0) 1931999 gives isRefused 43
+    ∷ wavelength 1000 (pos 0) 0 gives isRefused 43
+    ∷ wavelength 1000 (pos 0) 4294967295 gives isRefused 43
+    ∷ []
+
 -- what is asked, and what the documents say to it
 abbrev pub cases : List Case
 cases =
@@ -250,3 +323,4 @@ cases =
     -- bit 2 or bit 4 without bit 1, and bits 5 to 7, with every field after them and with none
     ∷ map (λ m. (m ∷ n1 ++ r1 ++ a1 ++ n2 ++ r2 ++ a2) refusedBy 31) badMaps
     ++ map (λ m. (m ∷ []) refusedBy 31) badMaps
+    ++ frequencies

@@ -5,17 +5,21 @@ use mathlib.Core.Bool.{Bool, true, false}
 use mathlib.Core.List.{List, [], _∷_}
 use native.Mathlib.Omega.{arith}
 use lib.Dec.{eqb, leb}
+use lib.IntN.{ℤ}
 use lib.ListN.{length, getD}
 use borrow.Author.Tests.{eqb-false}
 use Rattle.basis.specs.Choice.{pick}
 use Rattle.text.specs.declared.Number.{Number}
 use Rattle.text.specs.declared.Number.the-variants.{Got, Missing}
+use Rattle.text.specs.declared.Signed.{Signed}
+use Rattle.text.specs.declared.Signed.the-variants.{Got as gotSigned, Missing as noSigned}
 use Rattle.text.specs.Bytes.{bytes}
 use Rattle.text.specs.Number.{number}
+use Rattle.text.specs.Signed.{signed}
 use Rattle.words.specs.Split.{words, sameText}
 use Rattle.commands.specs.declared.Command.{Command}
-use Rattle.commands.specs.declared.Command.the-variants.{Read, ReadFile, Write, WriteFile, Load, Link, Circuits, Show, Desk}
-use Rattle.commands.specs.Command.{longestCommand, lastAt, byFirst, readCommand, writeCommand, given, field, atEnd, linkCommand, commandWords, commandOf}
+use Rattle.commands.specs.declared.Command.the-variants.{Read, ReadFile, Write, WriteFile, Load, Link, Circuits, Show, Frequency, Wavelength, Desk}
+use Rattle.commands.specs.Command.{longestCommand, lastAt, byFirst, readCommand, writeCommand, given, field, givenSigned, signedField, atEnd, linkCommand, gridCommand, commandWords, commandOf}
 use Rattle.commands.proofs.Last.{last-within}
 
 -- where it begins is at most n
@@ -28,6 +32,8 @@ Begins n Load = Unit {0}
 Begins n (Link link wavelength direction) = Unit {0}
 Begins n Circuits = Unit {0}
 Begins n Show = Unit {0}
+Begins n (Frequency spacing start wavelength) = Unit {0}
+Begins n (Wavelength spacing start frequency) = Unit {0}
 Begins n Desk = Unit {0}
 
 -- each part of the definition keeps that
@@ -44,10 +50,21 @@ module _ (n : ℕ) where
   begins-given (Got k) f h = h k
   begins-given Missing f h = tt
 
-  begins-field : (ws : List (List ℕ)) (f : ℕ → List (List ℕ) → Command) → ((k : ℕ) (vs : List (List ℕ)) → Begins n (f k vs)) → Begins n (field ws f)
+  begins-field : (bits : ℕ) (ws : List (List ℕ)) (f : ℕ → List (List ℕ) → Command) → ((k : ℕ) (vs : List (List ℕ)) → Begins n (f k vs))
+      → Begins n (field bits ws f)
   unfolding field
-  begins-field [] f h = tt
-  begins-field (w ∷ ws) f h = begins-given (number (2 ^ 64) w) _ (λ k. h k ws)
+  begins-field bits [] f h = tt
+  begins-field bits (w ∷ ws) f h = begins-given (number (2 ^ bits) w) _ (λ k. h k ws)
+
+  begins-given-signed : (m : Signed) (f : ℤ → Command) → ((z : ℤ) → Begins n (f z)) → Begins n (givenSigned m f)
+  begins-given-signed (gotSigned z) f h = h z
+  begins-given-signed noSigned f h = tt
+
+  begins-signed : (ws : List (List ℕ)) (f : ℤ → List (List ℕ) → Command) → ((z : ℤ) (vs : List (List ℕ)) → Begins n (f z vs))
+      → Begins n (signedField ws f)
+  unfolding signedField
+  begins-signed [] f h = tt
+  begins-signed (w ∷ ws) f h = begins-given-signed (signed w) _ (λ z. h z ws)
 
   begins-first : (l : List ℕ) (s : ℕ) (file other : Command) → ((s ≡ 0 → ⊥) → Begins n file) → ((s ≡ 0 → ⊥) → Begins n other)
       → Begins n (byFirst l s file other)
@@ -70,7 +87,12 @@ module _ (l : List ℕ) where
   begins-link : (ws : List (List ℕ)) → Begins (length l) (linkCommand ws)
   unfolding linkCommand
   begins-link ws =
-      begins-field (length l) ws _ (λ a us. begins-field (length l) us _ (λ b vs. begins-field (length l) vs _ (λ c rs. begins-end (length l) rs _ tt)))
+      begins-field (length l) 64 ws _ (λ a us. begins-field (length l) 64 us _ (λ b vs. begins-field (length l) 64 vs _ (λ c rs. begins-end (length l) rs _ tt)))
+
+  begins-grid : (asked : ℕ → ℤ → ℕ → Command) → ((s : ℕ) (z : ℤ) (k : ℕ) → Begins (length l) (asked s z k)) → (ws : List (List ℕ)) → Begins (length l) (gridCommand asked ws)
+  unfolding gridCommand
+  begins-grid asked h ws =
+      begins-field (length l) 32 ws _ (λ a us. begins-signed (length l) us _ (λ b vs. begins-field (length l) 32 vs _ (λ c rs. begins-end (length l) rs _ (h _ _ _))))
 
   begins-words : (ws : List (List ℕ)) → Begins (length l) (commandWords l ws)
   unfolding commandWords
@@ -81,7 +103,9 @@ module _ (l : List ℕ) where
       (begins-pick (length l) (sameText w (bytes "load")) _ _ (begins-end (length l) ws _ tt)
       (begins-pick (length l) (sameText w (bytes "link")) _ _ (begins-link ws)
       (begins-pick (length l) (sameText w (bytes "circuits")) _ _ (begins-end (length l) ws _ tt)
-      (begins-pick (length l) (sameText w (bytes "show")) _ _ (begins-end (length l) ws _ tt) tt)))))
+      (begins-pick (length l) (sameText w (bytes "show")) _ _ (begins-end (length l) ws _ tt)
+      (begins-pick (length l) (sameText w (bytes "frequency")) _ _ (begins-grid Frequency (λ s z k. tt) ws)
+      (begins-pick (length l) (sameText w (bytes "wavelength")) _ _ (begins-grid Wavelength (λ s z k. tt) ws) tt)))))))
 
   begins : Begins (length l) (commandOf l)
   unfolding commandOf

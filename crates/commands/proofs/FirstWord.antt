@@ -11,8 +11,8 @@ use Rattle.text.specs.Bytes.{bytes}
 use Rattle.words.specs.Split.{otherWords, wordLength, sameText}
 use Rattle.words.proofs.Split.{end-within, words-first}
 use Rattle.commands.specs.declared.Command.{Command}
-use Rattle.commands.specs.declared.Command.the-variants.{Load, Circuits, Show, Desk}
-use Rattle.commands.specs.Command.{longestCommand, readCommand, writeCommand, atEnd, linkCommand, commandWords, commandOf}
+use Rattle.commands.specs.declared.Command.the-variants.{Load, Circuits, Show, Frequency, Wavelength, Desk}
+use Rattle.commands.specs.Command.{longestCommand, readCommand, writeCommand, atEnd, linkCommand, gridCommand, gridWords, commandWords, commandOf}
 
 -- a line that is too long is left to the desk, which refuses it
 pub line-long : (l : List ℕ) → longestCommand < length l → Desk ≡ commandOf l
@@ -60,8 +60,22 @@ module _ (l : List ℕ) (end : ℕ) (e : end ≡ 0 + wordLength (drop 0 l)) wher
                 unfolding commandWords
                 line-show x t k = k ∙ sym (by-words ∙ rw (← is-a, not-a, ← is-b, not-b, ← is-c, not-c, ← is-d, not-d, ← is-g, not-g, ← is-f, t))
 
-                pub line-other : f ≡ false → Desk ≡ commandOf l
+                pub line-grid : (x : Command) → f ≡ false → x ≡ gridWords (take end l) (otherWords (drop end l)) → x ≡ commandOf l
                 unfolding commandWords
-                line-other t = sym (by-words ∙ rw (← is-a, not-a, ← is-b, not-b, ← is-c, not-c, ← is-d, not-d, ← is-g, not-g, ← is-f, t))
+                line-grid x t k = k ∙ sym (by-words ∙ rw (← is-a, not-a, ← is-b, not-b, ← is-c, not-c, ← is-d, not-d, ← is-g, not-g, ← is-f, t))
 
-pub ruleset lines = (line-long, first-long, line-read, line-write, line-load, line-link, line-circuits, line-show, line-other)
+pub ruleset lines = (line-long, first-long, line-read, line-write, line-load, line-link, line-circuits, line-show, line-grid)
+
+-- a line on the frequency grid
+module _ (w : List ℕ) (ws : List (List ℕ)) (a : Bool) (is-a : a ≡ sameText w (bytes "frequency")) where
+  pub grid-frequency : (x : Command) → a ≡ true → x ≡ gridCommand Frequency ws → x ≡ gridWords w ws
+  grid-frequency x t k = k ∙ sym (rw (← is-a, t))
+
+  module _ (not-a : a ≡ false) (b : Bool) (is-b : b ≡ sameText w (bytes "wavelength")) where
+    pub grid-wavelength : (x : Command) → b ≡ true → x ≡ gridCommand Wavelength ws → x ≡ gridWords w ws
+    grid-wavelength x t k = k ∙ sym (rw (← is-a, not-a, ← is-b, t))
+
+    pub grid-other : b ≡ false → Desk ≡ gridWords w ws
+    grid-other t = sym (rw (← is-a, not-a, ← is-b, t))
+
+pub ruleset grid = (grid-frequency, grid-wavelength, grid-other)

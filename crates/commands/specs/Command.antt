@@ -1,17 +1,22 @@
 -- What a line asks for beyond the script's three kinds; any other is for the order desk, which runs it or refuses it. Assumes nothing.
 -- What `parse_command` promises.
 use Prim.Native.Nat.{ℕ, suc, _-_, _*_, _^_}
+use mathlib.Core.Bool.{Bool, true, false}
 use mathlib.Core.List.{List, [], _∷_}
 use lib.Dec.{eqb, leb}
+use lib.IntN.{ℤ}
 use lib.ListN.{length, getD}
 use Rattle.basis.specs.Choice.{pick}
 use Rattle.text.specs.declared.Number.{Number}
 use Rattle.text.specs.declared.Number.the-variants.{Got, Missing}
+use Rattle.text.specs.declared.Signed.{Signed}
+use Rattle.text.specs.declared.Signed.the-variants.{Got as gotSigned, Missing as noSigned}
 use Rattle.text.specs.Bytes.{bytes}
 use Rattle.text.specs.Number.{number}
+use Rattle.text.specs.Signed.{signed}
 use Rattle.words.specs.Split.{words, sameText}
 use Rattle.commands.specs.declared.Command.{Command}
-use Rattle.commands.specs.declared.Command.the-variants.{Read, ReadFile, Write, WriteFile, Load, Link, Circuits, Show, Desk}
+use Rattle.commands.specs.declared.Command.the-variants.{Read, ReadFile, Write, WriteFile, Load, Link, Circuits, Show, Frequency, Wavelength, Desk}
 
 -- of a form at most 4,096 bytes are read, from the digits of a word or from a file
 abbrev pub mostRead : ℕ
@@ -51,18 +56,49 @@ abbrev pub given : Number → (ℕ → Command) → Command
 given (Got n) f = f n
 given Missing f = Desk
 
--- what follows from the first word, as a number of 64 bits, and the words after it
-unfoldable pub field : List (List ℕ) → (ℕ → List (List ℕ) → Command) → Command
-field [] f = Desk
-field (w ∷ ws) f = given (number (2 ^ 64) w) (λ n. f n ws)
+-- what follows from the first word, as a number of so many bits, and the words after it
+unfoldable pub field : ℕ → List (List ℕ) → (ℕ → List (List ℕ) → Command) → Command
+field bits [] f = Desk
+field bits (w ∷ ws) f = given (number (2 ^ bits) w) (λ n. f n ws)
 
--- `link LINK WAVELENGTH DIRECTION`
+-- what follows from the signed number that a word is
+abbrev pub givenSigned : Signed → (ℤ → Command) → Command
+givenSigned (gotSigned z) f = f z
+givenSigned noSigned f = Desk
+
+-- what follows from the first word, as a signed number of 32 bits, and the words after it
+unfoldable pub signedField : List (List ℕ) → (ℤ → List (List ℕ) → Command) → Command
+signedField [] f = Desk
+signedField (w ∷ ws) f = givenSigned (signed w) (λ z. f z ws)
+
+-- `link LINK WAVELENGTH DIRECTION`: "the three numbers may have 64 bits"
 unfoldable pub linkCommand : List (List ℕ) → Command
 linkCommand ws =
-    field ws (λ link ws.
-    field ws (λ wavelength ws.
-    field ws (λ direction ws.
+    field 64 ws (λ link ws.
+    field 64 ws (λ wavelength ws.
+    field 64 ws (λ direction ws.
     atEnd ws (Link link wavelength direction))))
+
+-- `frequency SPACING START WAVELENGTH` or `wavelength SPACING START FREQUENCY` (02, E3): the first and the last number have 32 bits, and
+-- START is signed with 32
+unfoldable pub gridCommand : (ℕ → ℤ → ℕ → Command) → List (List ℕ) → Command
+gridCommand asked ws =
+    field 32 ws (λ spacing ws.
+    signedField ws (λ start ws.
+    field 32 ws (λ last ws.
+    atEnd ws (asked spacing start last))))
+
+-- which of the two a line on the frequency grid is, by its first word
+abbrev pub gridWords : List ℕ → List (List ℕ) → Command
+gridWords w ws =
+    pick (sameText w (bytes "frequency")) (gridCommand Frequency ws)
+    (pick (sameText w (bytes "wavelength")) (gridCommand Wavelength ws)
+    Desk)
+
+-- the way back, or there
+abbrev pub wayAsked : Bool → ℕ → ℤ → ℕ → Command
+wayAsked true = Wavelength
+wayAsked false = Frequency
 
 -- a line by its words: the first says which it is
 unfoldable pub commandWords : List ℕ → List (List ℕ) → Command
@@ -74,7 +110,7 @@ commandWords l (w ∷ ws) =
     (pick (sameText w (bytes "link")) (linkCommand ws)
     (pick (sameText w (bytes "circuits")) (atEnd ws Circuits)
     (pick (sameText w (bytes "show")) (atEnd ws Show)
-    Desk)))))
+    (gridWords w ws))))))
 
 unfoldable pub commandOf : List ℕ → Command
 commandOf l = pick (leb (length l) longestCommand) (commandWords l (words l)) Desk

@@ -4,8 +4,10 @@ ghost use mathlib.Core.Path.{_≡_};
 ghost use Prim.Native.Nat.{_≤_};
 ghost use lib.ListN.{length, drop};
 ghost use Rattle.words.specs.Split.{otherWords};
-ghost use Rattle.commands.specs.Command.{lastAt, byFirst, readCommand, writeCommand, atEnd, linkCommand, commandOf};
+ghost use Rattle.commands.specs.Command.{lastAt, byFirst, readCommand, writeCommand, atEnd, linkCommand, gridCommand, gridWords, wayAsked, commandOf};
 use words::Field;
+use words::MOST_U32;
+use words::SignedField;
 
 // The most bytes of a form that are read, from the digits of a word or from a file. A longer file is read to that.
 pub const MOST_READ: usize = 4096;
@@ -27,6 +29,16 @@ pub enum Command {
     },
     Circuits,
     Show,
+    Frequency {
+        spacing: u32,
+        start: i32,
+        wavelength: u32,
+    },
+    Wavelength {
+        spacing: u32,
+        start: i32,
+        frequency: u32,
+    },
     Desk,
 }
 
@@ -122,6 +134,54 @@ fn parse_link(line: &[u8], at: usize) -> Command
     )
 }
 
+// What is asked of a plan of the grid: the wavelength at a frequency, or the frequency of a wavelength.
+fn grid_command(back: bool, spacing: u32, start: i32, last: u32) -> Command
+    ensures { λ r. ⌜ r ≡ wayAsked back spacing start last ⌝ }
+{
+    if back {
+        return Command::Wavelength {
+            spacing,
+            start,
+            frequency: last,
+        };
+    }
+    Command::Frequency {
+        spacing,
+        start,
+        wavelength: last,
+    }
+}
+
+// `frequency SPACING START WAVELENGTH`, or back, `wavelength SPACING START FREQUENCY`, after its first word.
+fn parse_grid(line: &[u8], at: usize, back: bool) -> Command
+    ensures { λ r. ⌜ r ≡ gridCommand (wayAsked back) (otherWords (drop at (now (line .entry)))) ⌝ }
+{
+    let Field::Read(spacing, a) = words::read_field(line, at, MOST_U32) else {
+        return Command::Desk;
+    };
+    let SignedField::Read(start, b) = words::read_signed_field(line, a) else {
+        return Command::Desk;
+    };
+    let Field::Read(last, end) = words::read_field(line, b, MOST_U32) else {
+        return Command::Desk;
+    };
+    let command = grid_command(back, spacing as u32, start, last as u32);
+    at_end(line, end, command)
+}
+
+// A line on the frequency grid, by its first word, which ends at the position.
+fn parse_grid_line(first: &[u8], line: &[u8], end: usize) -> Command
+    ensures { λ r. ⌜ r ≡ gridWords (now (first .entry)) (otherWords (drop end (now (line .entry)))) ⌝ }
+{
+    if words::same_text(first, b"frequency") {
+        return parse_grid(line, end, false);
+    }
+    if words::same_text(first, b"wavelength") {
+        return parse_grid(line, end, true);
+    }
+    Command::Desk
+}
+
 // What a line asks for, without its line end.
 pub fn parse_command(line: &[u8]) -> Command
     ensures { λ r. ⌜ r ≡ commandOf (now (line .entry)) ⌝ }
@@ -149,5 +209,5 @@ pub fn parse_command(line: &[u8]) -> Command
     if words::same_text(first, b"show") {
         return at_end(line, end, Command::Show);
     }
-    Command::Desk
+    parse_grid_line(first, line, end)
 }

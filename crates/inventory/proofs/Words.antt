@@ -1,6 +1,6 @@
 -- The lines of an answer, from their words with the numbers put in. Assumes nothing.
 use Prim.Native.Nat.{ℕ, _+_, _%_, _≤_, _<_}
-use mathlib.Core.Path.{_≡_, refl}
+use mathlib.Core.Path.{_≡_}
 use mathlib.Core.List.{List, [], _∷_, append-assoc, append-nil}
 use native.Mathlib.Omega.{arith}
 use lib.ListN.{length}
@@ -8,9 +8,9 @@ use borrow.Author.Tests.{lt-ltb, le-ltb, ne-eqb}
 use Rattle.lightpath.specs.declared.Circuit.{Circuit}
 use Rattle.refusals.specs.Refusal.{numberOf}
 use Rattle.refusals.specs.declared.Refusal.{Refusal}
-use Rattle.refusals.specs.declared.Refusal.the-variants.{NodeCount, PortCount, PortSum, OffRing, SameNode, NumberLive, NoTransmitter, NoReceiver, NotLive, NoWavelength, NoDirection, ShortList, ShortBuffer, BrokenRule, CutShort, BadField, TrailingBytes, BrokenForm}
 use Rattle.refusals.specs.declared.Verdict.{Verdict}
 use Rattle.refusals.specs.declared.Verdict.the-variants.{Granted as granted, Refused as refused}
+use Rattle.refusals.proofs.Bytes.{number-byte}
 use Rattle.form.specs.Form.{longestForm}
 use Rattle.link_question.specs.Link.{noCircuit, refusalOf}
 use Rattle.buffer.specs.Put.{Put, Room, Printed}
@@ -57,24 +57,10 @@ module _ (l l′ : List ℕ) (at e : ℕ) where
 -- the answer of a refusal is printed with its number
 pub refusal-line : (r : Refusal) → linkLine (refusalOf r) ≡ lineOf (("link refused ", numberOf r) ∷ [])
 unfolding linkLine
-refusal-line NodeCount = refl
-refusal-line PortCount = refl
-refusal-line PortSum = refl
-refusal-line OffRing = refl
-refusal-line SameNode = refl
-refusal-line NumberLive = refl
-refusal-line NoTransmitter = refl
-refusal-line NoReceiver = refl
-refusal-line NotLive = refl
-refusal-line NoWavelength = refl
-refusal-line NoDirection = refl
-refusal-line ShortList = refl
-refusal-line ShortBuffer = refl
-refusal-line BrokenRule = refl
-refusal-line CutShort = refl
-refusal-line BadField = refl
-refusal-line TrailingBytes = refl
-refusal-line BrokenForm = refl
+refusal-line r =
+    let b = number-byte r in
+    let low : (noCircuit + numberOf r) % 256 ≡ numberOf r = omega (arith, b .1) in
+    rw (le-ltb (refusalOf r) noCircuit (omega arith), ne-eqb (refusalOf r) noCircuit (omega (arith, b .0)), low)
 
 pub ruleset lines = (read-made, read-refused, length-line, one-load, link-circuit, link-none, link-refused)
 

@@ -4,7 +4,7 @@
 ghost use mathlib.Core.Path.{_≡_};
 ghost use Prim.Native.Nat.{_+_, _*_, _<_};
 ghost use Rattle.limits.specs.Limits.{placeCount};
-ghost use Rattle.lightpath.specs.Place.{placeOf, directionOf, sameDirection};
+ghost use Rattle.lightpath.specs.Place.{placeOf, wavelengthOf, directionOf, sameDirection};
 ghost use Rattle.lightpath.specs.Circuit.{onRing, joins, ahead, hops, uses, adjacent, canShare, shareDirection};
 
 // The two ways round the ring.
@@ -69,6 +69,13 @@ impl Wavelength {
 }
 
 impl Place {
+    // The wavelength of the place.
+    pub fn wavelength(self) -> Wavelength
+        ensures { λ r. ⌜ r .0 ≡ wavelengthOf (self .0) ⌝ }
+    {
+        Wavelength(self.0 / 2)
+    }
+
     // The direction of the place.
     pub fn direction(self) -> Direction
         ensures { λ r. ⌜ r ≡ directionOf (self .0) ⌝ }

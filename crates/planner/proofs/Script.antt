@@ -1,10 +1,11 @@
 -- The script's three kinds of line are the order desk's here too. Assumes nothing.
 use Prim.Native.Nat.{ℕ, _≤_}
-use mathlib.Core.Path.{_≡_, refl, _∙_}
+use mathlib.Core.Path.{_≡_, refl, sym, _∙_}
 use mathlib.Core.Bool.{Bool, true, false}
 use mathlib.Core.List.{List, [], _∷_}
 use native.Mathlib.Omega.{arith}
 use lib.Dec.{eqb, leb}
+use lib.IntN.{ℤ}
 use lib.ListN.{length}
 use denote.Enum.Declared.{tagOf}
 use types.Run.{OneOf, miss}
@@ -16,7 +17,7 @@ use Rattle.requests.specs.declared.Request.the-variants.{Bad}
 use Rattle.requests.specs.Line.{longestLine, parseWords, parseLine}
 use Rattle.commands.specs.declared.Command.{Command}
 use Rattle.commands.proofs.Command.{the-type}
-use Rattle.commands.specs.declared.Command.the-variants.{Read, ReadFile, Desk}
+use Rattle.commands.specs.declared.Command.the-variants.{Read, ReadFile, Frequency, Wavelength, Desk}
 use Rattle.commands.specs.Command.{longestCommand, commandWords, commandOf}
 
 -- texts that are the same are one
@@ -70,8 +71,14 @@ module _ (l : List ℕ) (r : Command) (e : r ≡ commandOf l) (k : commandOf l �
   pub not-read-file : (s : ℕ) → r ≡ ReadFile s → ⊥
   not-read-file s h = let z : _≡_ {A = ℕ} 0 1 = cc in omega arith
 
+  pub not-frequency : (s : ℕ) (z : ℤ) (w : ℕ) → r ≡ Frequency s z w → ⊥
+  not-frequency s z w h = let i : Frequency s z w ≡ Desk = sym h ∙ e ∙ k in let one : _≡_ {A = ℕ} 0 1 = cc in omega arith
+
+  pub not-wavelength : (s : ℕ) (z : ℤ) (f : ℕ) → r ≡ Wavelength s z f → ⊥
+  not-wavelength s z f h = let i : Wavelength s z f ≡ Desk = sym h ∙ e ∙ k in let one : _≡_ {A = ℕ} 0 1 = cc in omega arith
+
   -- nor is a question: by its position
   pub not-question : OneOf questions (tagOf the-type r) → ⊥
   not-question o = let i : r ≡ Desk = e ∙ k in let p : OneOf questions (tagOf the-type Desk) = rw i at o in miss questions (tagOf the-type Desk) tt p
 
-pub ruleset commands = (not-read, not-read-file)
+pub ruleset commands = (not-read, not-read-file, not-frequency, not-wavelength)

@@ -14,6 +14,7 @@ use commands::Command;
 use commands::MOST_READ;
 use desk::Desk;
 use desk::Ran;
+use grid::GridPlan;
 use hex::Digits;
 use ring::RingTable;
 
@@ -72,6 +73,24 @@ fn run_question(desk: Desk, command: Command, line: &[u8], out: &mut [u8], at: u
     Ran { desk, next }
 }
 
+// `frequency SPACING START WAVELENGTH`, which needs no table.
+fn run_frequency(desk: Desk, plan: GridPlan, wavelength: u32, out: &mut [u8], at: usize) -> Ran
+    requires { ⌜ CanAnswer desk (now out) at ⌝ }
+    ensures { λ r. ⌜ LineAnswered (now (out .entry)) at (now (out .exit)) r ⌝ }
+{
+    let next = lasers::answer_frequency(plan, wavelength, out, at);
+    Ran { desk, next }
+}
+
+// `wavelength SPACING START FREQUENCY`, which needs none either.
+fn run_wavelength(desk: Desk, plan: GridPlan, frequency: u32, out: &mut [u8], at: usize) -> Ran
+    requires { ⌜ CanAnswer desk (now out) at ⌝ }
+    ensures { λ r. ⌜ LineAnswered (now (out .entry)) at (now (out .exit)) r ⌝ }
+{
+    let next = lasers::answer_wavelength(plan, frequency, out, at);
+    Ran { desk, next }
+}
+
 // Runs a line without its line end, and writes the answer at a position of the lent bytes. One that is no command is run as the script
 // program runs it.
 pub fn run_line(desk: Desk, line: &[u8], out: &mut [u8], at: usize) -> Ran
@@ -83,6 +102,16 @@ pub fn run_line(desk: Desk, line: &[u8], out: &mut [u8], at: usize) -> Ran
     match command {
         Command::Read(start) => run_read(desk, &line[start..], out, at),
         Command::ReadFile(start) => saved_forms::run_read_file(desk, &line[start..], out, at),
+        Command::Frequency {
+            spacing,
+            start,
+            wavelength,
+        } => run_frequency(desk, GridPlan { spacing, start }, wavelength, out, at),
+        Command::Wavelength {
+            spacing,
+            start,
+            frequency,
+        } => run_wavelength(desk, GridPlan { spacing, start }, frequency, out, at),
         Command::Desk => desk::run_line(desk, line, out, at),
         _ => run_question(desk, command, line, out, at),
     }

@@ -1,11 +1,11 @@
--- 01, "By whom it can be caused": the refusals and their numbers, and the first of several causes. Assumes nothing.
+-- 01, "By whom it can be caused", and 02, E3: the refusals and their numbers, and the first of several causes. Assumes nothing.
 -- What every call promises of its answer.
 use Prim.Native.Nat.{ℕ}
 use mathlib.Core.Bool.{Bool}
 use mathlib.Core.List.{List, [], _∷_}
 use Rattle.basis.specs.Choice.{pick}
 pub use Rattle.refusals.specs.declared.Refusal.{Refusal}
-pub use Rattle.refusals.specs.declared.Refusal.the-variants.{NodeCount, PortCount, PortSum, OffRing, SameNode, NumberLive, NoTransmitter, NoReceiver, NotLive, NoWavelength, NoDirection, ShortList, ShortBuffer, BrokenRule, CutShort, BadField, TrailingBytes, BrokenForm}
+pub use Rattle.refusals.specs.declared.Refusal.the-variants.{NodeCount, PortCount, PortSum, OffRing, SameNode, NumberLive, NoTransmitter, NoReceiver, NotLive, NoWavelength, NoDirection, ShortList, ShortBuffer, BrokenRule, CutShort, BadField, TrailingBytes, BrokenForm, NoSpacing, NoStart, OffPlan}
 pub use Rattle.refusals.specs.declared.Verdict.{Verdict}
 pub use Rattle.refusals.specs.declared.Verdict.the-variants.{Granted as granted, Refused as refused}
 
@@ -15,7 +15,7 @@ numberOf NodeCount = 1
 numberOf PortCount = 2
 numberOf PortSum = 3
 -- the order desk: node or link not 1 to N; source equals destination; number live already; no free transmitter at the source; no free
--- receiver at the destination; number to close isn't live; wavelength not below W; direction neither 0 nor 1
+-- receiver at the destination; number to close isn't live; wavelength not below W (02, E3: of a plan, above 63); direction neither 0 nor 1
 numberOf OffRing = 10
 numberOf SameNode = 11
 numberOf NumberLive = 12
@@ -34,6 +34,10 @@ numberOf CutShort = 30
 numberOf BadField = 31
 numberOf TrailingBytes = 32
 numberOf BrokenForm = 33
+-- field staff (02, E3): no spacing of the grid; starting n not −200 to 200; no wavelength of the plan there
+numberOf NoSpacing = 41
+numberOf NoStart = 42
+numberOf OffPlan = 43
 
 -- a refusal, if a test holds
 pub record Cause : Type 0 where

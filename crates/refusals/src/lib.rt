@@ -23,6 +23,9 @@ pub enum Refusal {
     BadField,
     TrailingBytes,
     BrokenForm,
+    NoSpacing,
+    NoStart,
+    OffPlan,
 }
 
 // Whether a request goes ahead.
@@ -54,5 +57,8 @@ pub fn refusal_number(refusal: Refusal) -> u8
         Refusal::BadField => 31,
         Refusal::TrailingBytes => 32,
         Refusal::BrokenForm => 33,
+        Refusal::NoSpacing => 41,
+        Refusal::NoStart => 42,
+        Refusal::OffPlan => 43,
     }
 }

@@ -2,3 +2,4 @@
 pub mod Bytes
 pub mod Decimal
 pub mod Number
+pub mod Signed

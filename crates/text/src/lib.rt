@@ -4,6 +4,7 @@ ghost use Prim.Native.Nat.{_+_};
 ghost use Rattle.buffer.specs.Put.{Put, Room};
 ghost use Rattle.text.specs.Decimal.{decimal};
 ghost use Rattle.text.specs.Number.{number};
+ghost use Rattle.text.specs.Signed.{signed};
 
 // What a word says: a number, or none.
 pub enum Number {
@@ -39,6 +40,36 @@ pub fn read_number(word: &[u8], most: u64) -> Number
         i += 1;
     }
     Number::Got(value)
+}
+
+// The most that a signed number of 32 bits is above zero, and the most below.
+const MOST_ABOVE: u64 = i32::MAX as u64;
+
+const MOST_BELOW: u64 = MOST_ABOVE + 1;
+
+// What a word says as a signed number of 32 bits: one, or none.
+pub enum Signed {
+    Got(i32),
+    Missing,
+}
+
+// The signed number that a word is in decimal, with `-` before its digits where it is below zero.
+pub fn read_signed(word: &[u8]) -> Signed
+    ensures { λ r. ⌜ r ≡ signed (now (word .entry)) ⌝ }
+{
+    if word.len() == 0 {
+        return Signed::Missing;
+    }
+    if word[0] == b'-' {
+        let Number::Got(below) = read_number(&word[1..], MOST_BELOW) else {
+            return Signed::Missing;
+        };
+        return Signed::Got(-(below as i64) as i32);
+    }
+    let Number::Got(above) = read_number(word, MOST_ABOVE) else {
+        return Signed::Missing;
+    };
+    Signed::Got(above as i32)
 }
 
 // Writes a number in decimal at a position and gives the position after it.

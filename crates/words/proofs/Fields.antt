@@ -16,15 +16,18 @@ use Rattle.words.specs.Field.{Next, FieldAt}
 use Rattle.words.proofs.Split.{end-within, words-next}
 
 -- at the line's end there is no next word
+pub none-left : {A : Type 0} (b : List ℕ) (at : ℕ) → length b ≤ at → (w : List ℕ) (ws : List (List ℕ)) → otherWords (drop at b) ≡ w ∷ ws → A
+none-left b at h w ws e = let k : [] ≡ w ∷ ws = rw (drop-of-length-le b h) at e in let z : _≡_ {A = ℕ} 0 1 = cc in absurd (omega arith)
+
 pub no-word : (limit : ℕ) (b : List ℕ) (at : ℕ) → length b ≤ at → FieldAt limit b at Unread
-no-word limit b at h w ws e = let k : [] ≡ w ∷ ws = rw (drop-of-length-le b h) at e in let z : _≡_ {A = ℕ} 0 1 = cc in absurd (omega arith)
+no-word limit b at h w ws e = none-left b at h w ws e
 
 -- before the line's end there is one, which ends at the position that was found
 module _ (b : List ℕ) (at end : ℕ) (h : at < length b) (e : end ≡ (at + 1) + wordLength (drop (at + 1) b)) where
   pub word-end : end ≤ length b
   word-end = end-within b (at + 1) end e (omega arith)
 
-  word-is : otherWords (drop at b) ≡ take (end - (at + 1)) (drop (at + 1) b) ∷ otherWords (drop end b)
+  pub word-is : otherWords (drop at b) ≡ take (end - (at + 1)) (drop (at + 1) b) ∷ otherWords (drop end b)
   word-is =
       let k : wordLength (drop (at + 1) b) ≡ end - (at + 1) = omega (arith, e) in
       let j : at + 1 + (end - (at + 1)) ≡ end = omega (arith, e) in

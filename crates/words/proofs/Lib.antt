@@ -3,3 +3,4 @@ pub mod Split
 pub mod Seeking
 pub mod Agreeing
 pub mod Fields
+pub mod SignedFields

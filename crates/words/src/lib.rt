@@ -4,7 +4,9 @@ ghost use Prim.Native.Nat.{_+_};
 ghost use lib.ListN.{drop};
 ghost use Rattle.words.specs.Split.{sameText, wordLength};
 ghost use Rattle.words.specs.Field.{FieldAt};
+ghost use Rattle.words.specs.SignedField.{SignedFieldAt};
 use text::Number;
+use text::Signed;
 
 // The most that fields of 8, 16 and 32 bits hold.
 pub const MOST_U8: u64 = u8::MAX as u64;
@@ -63,4 +65,25 @@ pub fn read_field(line: &[u8], at: usize, most: u64) -> Field
         return Field::Unread;
     };
     Field::Read(value, end)
+}
+
+// What the next word is as a signed number of 32 bits: one, and the word's end; or none, or there is no word.
+pub enum SignedField {
+    Read(i32, usize),
+    Unread,
+}
+
+// Reads the word after the one that ends at a position, as a signed number.
+pub fn read_signed_field(line: &[u8], at: usize) -> SignedField
+    ensures { λ r. ⌜ SignedFieldAt (now (line .entry)) at r ⌝ }
+{
+    if line.len() <= at {
+        return SignedField::Unread;
+    }
+    let start = at + 1;
+    let end = word_end(line, start);
+    let Signed::Got(value) = text::read_signed(&line[start..end]) else {
+        return SignedField::Unread;
+    };
+    SignedField::Read(value, end)
 }

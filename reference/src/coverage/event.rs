@@ -2,6 +2,7 @@
 
 use std::fmt;
 
+use super::grid::{self, GridEvent, Way};
 use crate::form::Fault;
 use crate::place::Direction::{self, Clockwise, Counterclockwise};
 use crate::refusal::Refusal;
@@ -94,6 +95,8 @@ pub enum Event {
     RefusedNoPath,
     RefusedOver8192,
     Exactly8192Good,
+    /// What a line on a frequency plan reached.
+    Grid(Way, GridEvent),
 }
 
 use Event::*;
@@ -149,7 +152,7 @@ pub const SCRIPT_EVENTS: [Event; 47] = [
     LeadingZeroGood,
 ];
 
-/// Every event that the other lines of the planning program can show.
+/// Every event that the other lines of the planning program can show, but those on frequency plans.
 pub const PLAN_EVENTS: [Event; 73] = [
     Read,
     ReadBeforeRing,
@@ -311,6 +314,7 @@ impl fmt::Display for Event {
             RefusedNoPath => "line refused: write to something without @",
             RefusedOver8192 => "line refused: over 8,192 bytes",
             Exactly8192Good => "good line of exactly 8,192 bytes",
+            Grid(way, event) => return grid::write(f, *way, *event),
         })
     }
 }

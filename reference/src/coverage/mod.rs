@@ -1,6 +1,7 @@
 //! Counts of what a script reached: each step, each refusal, each sort of line.
 
 mod event;
+mod grid;
 mod plan;
 mod script;
 
@@ -11,6 +12,7 @@ use crate::program::Program;
 use crate::table::Table;
 
 pub use event::{Event, PLAN_EVENTS, SCRIPT_EVENTS};
+pub use grid::{grid_events, GridEvent, LineFault, Off, Way};
 
 #[derive(Clone, PartialEq, Eq, Debug)]
 pub struct Coverage {
@@ -39,11 +41,10 @@ impl Coverage {
 
     /// The events that the program's scripts can show.
     fn events(&self) -> Vec<Event> {
-        let of_plan: &[Event] = match self.program {
-            Program::Script => &[],
-            Program::Plan => &PLAN_EVENTS,
-        };
-        [&SCRIPT_EVENTS, of_plan].concat()
+        match self.program {
+            Program::Script => SCRIPT_EVENTS.to_vec(),
+            Program::Plan => [&SCRIPT_EVENTS[..], &PLAN_EVENTS, &grid_events()].concat(),
+        }
     }
 
     /// The events that were not reached.

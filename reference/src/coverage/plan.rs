@@ -2,6 +2,7 @@
 
 use std::collections::BTreeSet;
 
+use super::grid::sort_of_odd_grid;
 use super::script::{narrow, sort_of_odd_account, sort_of_odd_bytes};
 use super::Event::*;
 use super::{Before, Coverage, Event};
@@ -43,6 +44,10 @@ impl Coverage {
             (Answer::Read { .. }, Some(table)) => self.saw_read(before, table),
             (Answer::ReadRefused(_), _) => self.saw_refused_form(line),
             (Answer::ReadFailed, _) => self.saw(ReadFailed),
+            (Answer::Frequency(_) | Answer::FrequencyRefused(_), _)
+            | (Answer::Wavelength(_) | Answer::WavelengthRefused(_), _) => {
+                self.saw_grid(line, before);
+            }
             (Answer::Written(_) | Answer::FileWritten { .. }, Some(table)) => {
                 self.saw(Written);
                 self.saw_accounts_shown(table, WrittenWithAccount, WrittenAfterMove);
@@ -134,6 +139,8 @@ fn sort_of_refused(line: &[u8]) -> Event {
         sort
     } else if let Some(sort) = sort_of_odd_form(line) {
         sort
+    } else if let Some(sort) = sort_of_odd_grid(line) {
+        sort
     } else if let Some(sort) = sort_of_odd_account(line) {
         sort
     } else if parse(&narrow(line)).is_some() {
@@ -147,7 +154,9 @@ fn sort_of_refused(line: &[u8]) -> Event {
 fn sort_before_table(command: &Command) -> Event {
     match command {
         Command::Script(_) => RefusedBeforeRing,
-        Command::Read(_) => unreachable!("reading needs no table"),
+        Command::Read(_) | Command::Frequency { .. } | Command::Wavelength { .. } => {
+            unreachable!("the line needs no table")
+        }
         Command::Ask(Question::Write | Question::WriteFile(_)) => RefusedBeforeTable("write"),
         Command::Ask(Question::Load) => RefusedBeforeTable("load"),
         Command::Ask(Question::Link { .. }) => RefusedBeforeTable("link"),

@@ -115,7 +115,10 @@ impl Coverage {
 
     /// Counts a good line whose numbers have leading zeros.
     pub(super) fn saw_numbers(&mut self, line: &[u8]) {
-        let zero_leads = |word: &[u8]| word.len() > 1 && word[0] == b'0';
+        let zero_leads = |word: &[u8]| {
+            let digits = word.strip_prefix(b"-").unwrap_or(word);
+            digits.len() > 1 && digits[0] == b'0'
+        };
         self.saw_if(words(line).any(zero_leads), LeadingZeroGood);
     }
 }

@@ -3,6 +3,7 @@
 
 mod bad_lines;
 mod forms;
+mod grid_lines;
 mod longest;
 mod plan_lines;
 mod rings;
@@ -58,7 +59,7 @@ impl Kind {
 }
 
 /// How many of a hundred lines for the planning program are of its own kinds.
-const PLAN_LINES: usize = 40;
+const PLAN_LINES: usize = 41;
 
 struct Odds {
     bad_line: usize,
@@ -195,10 +196,12 @@ impl Generator {
         self.insert_zeros(line, length.saturating_sub(line.len()));
     }
 
-    /// Puts zeros before one of the line's numbers.
+    /// Puts zeros before the digits of one of the line's numbers.
     fn insert_zeros(&mut self, line: &mut Vec<u8>, zeros: usize) {
         let spaces: Vec<usize> = (0..line.len()).filter(|&at| line[at] == b' ').collect();
-        let at = *self.random.pick(&spaces) + 1;
+        let number = *self.random.pick(&spaces) + 1;
+        let has_sign = line.get(number) == Some(&b'-');
+        let at = number + usize::from(has_sign);
         line.splice(at..at, std::iter::repeat_n(b'0', zeros));
     }
 }

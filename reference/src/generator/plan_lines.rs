@@ -1,24 +1,33 @@
 //! Lines that only the planning program takes, and such lines spoilt.
 //! None of them names a file that there is.
 
+use super::grid_lines::grid_words;
 use super::Generator;
 use crate::place::Direction;
 use crate::plan::{hexadecimal, LINE_MOST};
 use crate::random::Random;
 use crate::table::{Lightpath, Table};
 
+/// How many of a hundred such lines more are on frequency plans before the first table, where most
+/// others are refused.
+const GRID_LINES_BEFORE_TABLE: usize = 20;
+
 impl Generator {
     pub(super) fn plan_line(&mut self) -> Vec<u8> {
+        if self.planner.table().is_none() && self.random.percent(GRID_LINES_BEFORE_TABLE) {
+            return self.grid_line();
+        }
         match self.random.below(100) {
-            0..=34 => self.read_line(),
-            35..=46 => {
+            0..=27 => self.read_line(),
+            28..=39 => {
                 self.save_form();
                 b"write".to_vec()
             }
-            47..=56 => b"load".to_vec(),
-            57..=78 => self.link_line(),
-            79..=84 => b"circuits".to_vec(),
-            85 => self.random.pick(&["read @", "write @"]).as_bytes().to_vec(),
+            40..=48 => b"load".to_vec(),
+            49..=68 => self.link_line(),
+            69..=74 => b"circuits".to_vec(),
+            75 => self.random.pick(&["read @", "write @"]).as_bytes().to_vec(),
+            76..=87 => self.grid_line(),
             _ => self.bad_plan_line(),
         }
     }
@@ -30,7 +39,12 @@ impl Generator {
     }
 
     fn link_line(&mut self) -> Vec<u8> {
-        let mut line = self.link_question();
+        let line = self.link_question();
+        self.at_times_with_zeros(line)
+    }
+
+    /// The line, at times with zeros before a number, at times with as many as fit.
+    pub(super) fn at_times_with_zeros(&mut self, mut line: Vec<u8>) -> Vec<u8> {
         match self.random.below(100) {
             0..=9 => {
                 let zeros = self.random.between(1, 40);
@@ -117,11 +131,12 @@ impl Generator {
 
     /// A good line with one byte changed, which may still be good.
     fn with_byte_changed(&mut self) -> Vec<u8> {
-        let mut line = match self.random.below(5) {
+        let mut line = match self.random.below(6) {
             0 => b"load".to_vec(),
             1 => b"write".to_vec(),
             2 => b"circuits".to_vec(),
             3 => read(&self.good_form()),
+            4 => grid_words(&mut self.random).join(" ").into_bytes(),
             _ => self.link_question(),
         };
         let at = self.random.below(line.len());
@@ -132,8 +147,6 @@ impl Generator {
     /// Lines that other releases may take.
     fn not_in_force(&mut self) -> Vec<u8> {
         let lines = [
-            "frequency 500 0 1",
-            "wavelength 500 0 1931000",
             "tidy",
             "from 1",
             "ends 1 1 2",

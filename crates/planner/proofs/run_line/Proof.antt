@@ -39,6 +39,18 @@ part-run-read-file-end c = search needs
 run-read-file-requires : tie.Need-run-read-file-requires
 run-read-file-requires c κs = search needs
 
+enum-known-command-3 : tie.Need-enum-known-command-3
+enum-known-command-3 c = search needs
+
+run-frequency-requires : tie.Need-run-frequency-requires
+run-frequency-requires c κs = search needs
+
+enum-known-command-4 : tie.Need-enum-known-command-4
+enum-known-command-4 c = search needs
+
+run-wavelength-requires : tie.Need-run-wavelength-requires
+run-wavelength-requires c κs = search needs
+
 enum-told : tie.Need-enum-told
 enum-told c = search needs
 
@@ -64,13 +76,25 @@ same-length-3 : tie.Need-same-length-3
 same-length-3 c = search needs
 
 returns-3 : tie.Need-returns-3
-returns-3 c = (search (needs, run-answered), λ k. search needs)
+returns-3 c = (search needs, λ k. absurd (search (needs, commands)))
 
 same-length-4 : tie.Need-same-length-4
 same-length-4 c = search needs
 
 returns-4 : tie.Need-returns-4
-returns-4 c = (search needs, λ k. absurd (not-question _ _ (c .before .before .before .before .before .parse-command .ensures) k (c .before .before .before .before .match .keys4)))
+returns-4 c = (search needs, λ k. absurd (search (needs, commands)))
+
+same-length-5 : tie.Need-same-length-5
+same-length-5 c = search needs
+
+returns-5 : tie.Need-returns-5
+returns-5 c = (search (needs, run-answered), λ k. search needs)
+
+same-length-6 : tie.Need-same-length-6
+same-length-6 c = search needs
+
+returns-6 : tie.Need-returns-6
+returns-6 c = (search needs, λ k. absurd (not-question _ _ (c .before .before .before .before .before .parse-command .ensures) k (c .before .before .before .before .match .keys6)))
 
 pub run-line-spec : {M : Type 1} → statement M
 run-line-spec =
@@ -87,6 +111,10 @@ run-line-spec =
     part-run-read-file-start
     part-run-read-file-end
     run-read-file-requires
+    enum-known-command-3
+    run-frequency-requires
+    enum-known-command-4
+    run-wavelength-requires
     enum-told
     run-line-requires
     run-question-requires
@@ -97,4 +125,8 @@ run-line-spec =
     same-length-3
     returns-3
     same-length-4
-    returns-4)
+    returns-4
+    same-length-5
+    returns-5
+    same-length-6
+    returns-6)

@@ -1,0 +1,2 @@
+-- The lines of an answer, from their words with the numbers put in.
+mod Words

@@ -1,0 +1,2 @@
+-- What is printed of lasers.
+pub mod Lines
