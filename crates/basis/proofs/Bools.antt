@@ -35,6 +35,11 @@ pub or-false : (a b : Bool) → (a || b) ≡ false → (a ≡ false) × (b ≡ f
 or-false true b e = ((cc), (cc))
 or-false false b e = (refl, e)
 
+-- two tests do not both pass where one of them fails
+pub not-both : (a b : Bool) → not (a && b) ≡ (not a || not b)
+not-both true b = refl
+not-both false b = refl
+
 -- a test that cannot pass fails
 pub fails : (b : Bool) → (b ≡ true → ⊥) → false ≡ b
 fails true h = absurd (h refl)

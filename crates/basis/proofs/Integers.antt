@@ -1,12 +1,12 @@
 -- Integers: how large sums, products and quotients are, multiples, and the division that rounds towards zero. Assumes nothing.
 use Prim.Native.Nat.{ℕ, zero, suc, _+_, _-_, _*_, _/_, _%_, _^_, _≤_, _<_}
-use mathlib.Core.Path.{_≡_, refl, sym, ap, _∙_}
+use mathlib.Core.Path.{_≡_, refl, sym, ap, subst, _∙_}
 use mathlib.Core.Bool.{Bool, true, false, not, cond}
 use native.Mathlib.Nat.{le-trans, lt-of-le-of-lt, add-zero, zero-mul, zero-mod, zero-div, div-le-self, div-add-mod', mul-mod-left, mul-div-cancel, mul-le-mul-right}
 use native.Mathlib.Omega.{arith}
 use lib.Dec.{T, ltb, ltb→lt}
 use lib.IntN.{ℤ, pos, negsuc, negℤ, natAbs, subℕ, _+ℤ_, _-ℤ_, _*ℤ_, pos-ne-negsuc, +ℤ-comm, +ℤ-negℤ-cancel, -ℤ-+ℤ-cancel}
-use lib.Signed.{mag, ltZ, leZ, quotZ, remZ}
+use lib.Signed.{_≤ℤ_, mag, ltZ, leZ, quotZ, remZ}
 use mir.Syntax.{Width}
 use mir.Val.{SFits, hbits}
 use borrow.Author.Tests.{le-ltb}
@@ -59,9 +59,9 @@ pub minus-plus : (a b : ℤ) → a +ℤ (b -ℤ a) ≡ b
 minus-plus a b = +ℤ-comm a (b -ℤ a) ∙ -ℤ-+ℤ-cancel b a
 
 -- a number taken from one that is not smaller
-pub less : (c m : ℕ) → m ≤ c → pos c +ℤ negℤ (pos m) ≡ pos (c - m)
-less c zero h = ap pos (omega arith)
-less c (suc m) h = rw (le-ltb c (suc m) h)
+pub pos-minus : (c m : ℕ) → m ≤ c → pos c +ℤ negℤ (pos m) ≡ pos (c - m)
+pos-minus c zero h = ap pos (omega arith)
+pos-minus c (suc m) h = rw (le-ltb c (suc m) h)
 
 -- a multiple, its remainder and its quotient, below zero
 neg-times : (q s : ℕ) → negℤ (pos q) *ℤ pos s ≡ negℤ (pos (q * s))
@@ -102,6 +102,10 @@ quot-times (negsuc a) s e = neg-times (suc a / s) s ∙ ap (λ x. negℤ (pos x)
 pub abs-zero : (z : ℤ) → natAbs z ≡ 0 → z ≡ pos 0
 abs-zero (pos m) e = ap pos e
 abs-zero (negsuc m) e = absurd (omega arith)
+
+-- a test of order that passes
+pub leZ-true : (a b : ℤ) → leZ a b ≡ true → a ≤ℤ b
+leZ-true a b e = record { le = subst T (sym e) tt }
 
 -- not at most is above
 pub not-leZ : (a b : ℤ) → not (leZ a b) ≡ ltZ b a

@@ -11,7 +11,6 @@ use mir.Syntax.{w32}
 use mir.Val.{SFits, toZ, ofZ}
 use mir.Facts.{toZ-pos, toZ-ofZ}
 use borrow.Author.Tests.{lt-ltb}
-use Rattle.basis.proofs.Bools.{and-left, and-right}
 use Rattle.refusals.specs.Refusal.{_if_, judged}
 use Rattle.refusals.specs.Answer.{answerBy}
 use Rattle.refusals.specs.declared.Refusal.{Refusal}
@@ -24,7 +23,7 @@ use Rattle.grid.specs.Tuning.{Tuned, Carried, To, notTuned, notCarried, 
 use Rattle.grid.specs.Number.{OnGrid}
 use Rattle.basis.proofs.Integers.{sfits-most}
 use Rattle.grid.proofs.Plans.{held, above-zero}
-use Rattle.grid.proofs.Laws.{plan-of, tuned-is}
+use Rattle.grid.proofs.Laws.{plan-of, last-stops, tuned-is}
 use Rattle.grid.proofs.Numbers.{tuned-numbers, carried-numbers}
 use Rattle.grid.proofs.Machine.{number-size}
 
@@ -73,8 +72,7 @@ module _ (p : GridPlan) where
 -- a wavelength above 63
 pub too-high : (p : GridPlan) (w : ℕ) → isPlan p ≡ true → highestWavelength < w → notTuned NoWavelength ≡ tunedOf p w
 unfolding tunedOf
-too-high p w e h =
-    rw (and-left (isSpacing (p .spacing)) (isStart (p .start)) e, and-right (isSpacing (p .spacing)) (isStart (p .start)) e, lt-ltb highestWavelength w h)
+too-high p w e h = sym (ap (tunedBy p w) (last-stops p e NoWavelength (ltb highestWavelength w) (lt-ltb highestWavelength w h)))
 
 -- the grid number of a wavelength
 sum-on : (n : ℤ) (w : ℕ) → w ≤ 63 → negℤ (pos 200) ≤ℤ n → n ≤ℤ pos 200 → (negℤ (pos 200) ≤ℤ (n +ℤ pos w)) × ((n +ℤ pos w) ≤ℤ pos 263)

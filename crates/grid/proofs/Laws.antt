@@ -1,22 +1,24 @@
 -- 02, E3: "no two wavelengths of a plan meet", and "there and back agrees", each for all four spacings together. Assumes nothing.
-use Prim.Native.Nat.{ℕ, suc, _≤_}
+use Prim.Native.Nat.{ℕ, suc, _≤_, _<_}
 use mathlib.Core.Path.{_≡_, refl, sym, ap, _∙_}
 use mathlib.Core.Logic.{_↔_}
-use mathlib.Core.Bool.{true, false, not}
+use mathlib.Core.Bool.{Bool, true, false, not}
+use mathlib.Core.List.{[], _∷_, _++_}
 use native.Mathlib.Omega.{arith}
-use lib.Dec.{eqb}
-use borrow.Author.Tests.{ltb-false, le-ltb, eqb-true, eq-eqb, ne-eqb, not-false}
+use lib.Dec.{eqb, ltb}
+use borrow.Author.Tests.{ltb-false, le-ltb, lt-ltb, eqb-true, eq-eqb, ne-eqb, not-false}
 use Rattle.basis.proofs.Bools.{and-left, and-right, and-both}
 use Rattle.basis.proofs.Search.{first-passes, first-only, first-end}
-use Rattle.refusals.specs.Refusal.{judged}
-use Rattle.refusals.specs.declared.Refusal.the-variants.{OffPlan}
+use Rattle.refusals.specs.Refusal.{_if_, judged}
+use Rattle.refusals.specs.declared.Refusal.{Refusal}
+use Rattle.refusals.specs.declared.Refusal.the-variants.{NoWavelength, OffPlan}
 use Rattle.refusals.specs.declared.Verdict.{Verdict}
 use Rattle.refusals.specs.declared.Verdict.the-variants.{Granted as granted, Refused as refused}
-use Rattle.refusals.proofs.Judged.{none-holds}
+use Rattle.refusals.proofs.Judged.{none-holds, judged-past}
 use Rattle.refusals.proofs.Bytes.{number-byte}
 use Rattle.lightpath.specs.declared.Wavelength.{Wavelength}
 use Rattle.grid.specs.Grid.{GridPlan, isSpacing, isStart, isPlan, highestWavelength, frequencyAt, wavelengthAt}
-use Rattle.grid.specs.Tuning.{tunedCauses, tunedBy, tunedOf, To, tunedAnswer, carriedCauses, carriedBy, carriedOf, By, notCarried, carriedAnswer}
+use Rattle.grid.specs.Tuning.{planCauses, tunedCauses, tunedBy, tunedOf, To, tunedAnswer, carriedCauses, carriedBy, carriedOf, By, notCarried, carriedAnswer}
 use Rattle.grid.specs.declared.Frequency.{Frequency}
 use Rattle.grid.proofs.Plans.{one-wavelength}
 
@@ -42,11 +44,23 @@ pub plan-of : (p : GridPlan) → not (isSpacing (p .spacing)) ≡ false → not 
 plan-of p s n =
     and-both (isSpacing (p .spacing)) (isStart (p .start)) (not-false (isSpacing (p .spacing)) s) (not-false (isStart (p .start)) n)
 
+-- and of a plan the last cause alone decides
+module _ (p : GridPlan) (plan : isPlan p ≡ true) (r : Refusal) (h : Bool) where
+  last-decides : judged (planCauses p ++ ((r if h) ∷ [])) ≡ judged ((r if h) ∷ [])
+  last-decides =
+      judged-past (planCauses p) ((r if h) ∷ [])
+      (rw (and-left (isSpacing (p .spacing)) (isStart (p .start)) plan, and-right (isSpacing (p .spacing)) (isStart (p .start)) plan))
+
+  last-passes : h ≡ false → judged (planCauses p ++ ((r if h) ∷ [])) ≡ granted
+  last-passes k = last-decides ∙ rw k
+
+  pub last-stops : h ≡ true → judged (planCauses p ++ ((r if h) ∷ [])) ≡ refused r
+  last-stops k = last-decides ∙ rw k
+
 -- a wavelength of a plan is tuned to its frequency
 pub tuned-is : (p : GridPlan) → isPlan p ≡ true → (w : ℕ) → w ≤ highestWavelength → tunedOf p w ≡ To (record { 0 = frequencyAt p w })
 unfolding tunedOf
-tuned-is p e w l =
-    rw (and-left (isSpacing (p .spacing)) (isStart (p .start)) e, and-right (isSpacing (p .spacing)) (isStart (p .start)) e, le-ltb highestWavelength w l)
+tuned-is p e w l = ap (tunedBy p w) (last-passes p e NoWavelength (ltb highestWavelength w) (le-ltb highestWavelength w l))
 
 -- and nothing else is tuned
 pub tuned-to : (p : GridPlan) (w : ℕ) (f : Frequency) → tunedOf p w ≡ To f → (isPlan p ≡ true) × (w ≤ highestWavelength) × (frequencyAt p w ≡ f .0)
@@ -65,15 +79,16 @@ unfolding carriedOf
 carried-is p e w f l q =
     let at-w = found-at p e w f l q in
     let within : wavelengthAt p f ≤ highestWavelength = omega arith in
-    rw
-    (and-left (isSpacing (p .spacing)) (isStart (p .start)) e, and-right (isSpacing (p .spacing)) (isStart (p .start)) e, le-ltb highestWavelength (wavelengthAt p f) within)
-    (ap (λ v. By (record { 0 = v })) at-w)
+    ap (carriedBy p f) (last-passes p e OffPlan (ltb highestWavelength (wavelengthAt p f)) (le-ltb highestWavelength (wavelengthAt p f) within))
+    ∙ ap (λ v. By (record { 0 = v })) at-w
 
 -- a frequency that no wavelength of it has is carried by none
 pub carried-none : (p : GridPlan) → isPlan p ≡ true → (f : ℕ) → ((w : ℕ) → w ≤ highestWavelength → frequencyAt p w ≡ f → ⊥)
     → carriedOf p f ≡ notCarried OffPlan
 unfolding carriedOf
-carried-none p e f h = rw (and-left (isSpacing (p .spacing)) (isStart (p .start)) e, and-right (isSpacing (p .spacing)) (isStart (p .start)) e, none-at p f h)
+carried-none p e f h =
+    let above : highestWavelength < wavelengthAt p f = omega (arith, none-at p f h) in
+    ap (carriedBy p f) (last-stops p e OffPlan (ltb highestWavelength (wavelengthAt p f)) (lt-ltb highestWavelength (wavelengthAt p f) above))
 
 -- and nothing else is carried
 pub carried-by : (p : GridPlan) (f : ℕ) (w : Wavelength) → carriedOf p f ≡ By w

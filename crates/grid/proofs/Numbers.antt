@@ -1,21 +1,18 @@
 -- The answers in the documents' numbers. Assumes nothing.
 use Prim.Native.Nat.{ℕ}
 use mathlib.Core.Path.{_≡_, refl, _∙_}
-use mathlib.Core.Bool.{Bool, true, false, not, _&&_, _||_}
+use mathlib.Core.Bool.{not, _||_}
 use lib.Dec.{eqb, ltb}
 use lib.IntN.{ℤ, pos, negℤ}
 use lib.Signed.{leZ, ltZ}
 use Rattle.basis.specs.Search.{everyBelow}
+use Rattle.basis.proofs.Bools.{not-both}
 use Rattle.basis.proofs.Search.{none-found}
+use Rattle.basis.proofs.Integers.{not-leZ}
 use Rattle.refusals.specs.Answer.{answerBy}
 use Rattle.refusals.proofs.Reasons.{in-numbers}
 use Rattle.grid.specs.Grid.{GridPlan, isStart, highestWavelength, frequencyAt, wavelengthAt}
 use Rattle.grid.specs.Tuning.{tunedCauses, tunedBy, tunedOf, tunedAnswer, tunedReasons, tunedValues, carriedCauses, carriedBy, carriedOf, carriedAnswer, carriedReasons, carriedValues}
-use Rattle.basis.proofs.Integers.{not-leZ}
-
-not-both : (a b : Bool) → not (a && b) ≡ (not a || not b)
-not-both true b = refl
-not-both false b = refl
 
 -- a start that is not within the limits is below them or above
 start-outside : (n : ℤ) → not (isStart n) ≡ (ltZ n (negℤ (pos 200)) || ltZ (pos 200) n)

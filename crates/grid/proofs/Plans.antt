@@ -1,17 +1,17 @@
 -- A plan of the grid: its frequencies stand one spacing apart, and where a division finds them. Assumes nothing.
 use Prim.Native.Nat.{ℕ, _+_, _*_, _≤_, _<_}
-use mathlib.Core.Path.{_≡_, sym, ap, subst, _∙_}
+use mathlib.Core.Path.{_≡_, sym, ap, _∙_}
 use mathlib.Core.Logic.{_⊎_, inl, inr}
 use mathlib.Core.Bool.{true, false, _||_}
 use native.Mathlib.Nat.{add-assoc, add-mul, add-left-cancel, eq-of-mul-eq-mul-right}
 use native.Mathlib.Omega.{arith}
-use lib.Dec.{T, eqb}
-use lib.IntN.{ℤ, pos, negℤ, natAbs, _+ℤ_, _-ℤ_}
+use lib.Dec.{eqb}
+use lib.IntN.{pos, negℤ, natAbs, _+ℤ_, _-ℤ_}
 use lib.Signed.{_≤ℤ_, leZ, quotZ, remZ}
 use borrow.Author.Tests.{eqb-true}
 use Rattle.basis.proofs.Bools.{and-left, and-right, or-true, fails}
 use Rattle.grid.specs.Grid.{GridPlan, anchor, isSpacing, isStart, isPlan, gridPoint, frequencyAt}
-use Rattle.basis.proofs.Integers.{plus-minus, minus-plus}
+use Rattle.basis.proofs.Integers.{leZ-true, plus-minus, minus-plus}
 use Rattle.grid.proofs.Points.{further, point-above, at-number, number-at}
 
 -- what it is to be a plan of the grid, in numbers: the spacing is above zero and at most 100 GHz
@@ -55,9 +55,6 @@ spacing-size s (inr (inl e)) = (omega arith, omega arith)
 spacing-size s (inr (inr (inl e))) = (omega arith, omega arith)
 spacing-size s (inr (inr (inr e))) = (omega arith, omega arith)
 
-holds-le : (a b : ℤ) → leZ a b ≡ true → a ≤ℤ b
-holds-le a b e = record { le = subst T (sym e) tt }
-
 pub held : (p : GridPlan) → isPlan p ≡ true → Held p
 held p e =
     let s = spacing-size (p .spacing) (one-of (p .spacing) (and-left _ (isStart (p .start)) e)) in
@@ -65,8 +62,8 @@ held p e =
     record {
       some = s .0;
       narrow = s .1;
-      low = holds-le _ _ (and-left _ (leZ (p .start) (pos 200)) n);
-      high = holds-le _ _ (and-right (leZ (negℤ (pos 200)) (p .start)) _ n);
+      low = leZ-true _ _ (and-left _ (leZ (p .start) (pos 200)) n);
+      high = leZ-true _ _ (and-right (leZ (negℤ (pos 200)) (p .start)) _ n);
     }
 
 -- the frequency of wavelength w is w spacings above that of wavelength 0

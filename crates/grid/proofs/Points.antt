@@ -8,7 +8,7 @@ use lib.Dec.{leb→le}
 use lib.IntN.{ℤ, pos, negsuc, negℤ, natAbs, sucℤ, _+ℤ_, _-ℤ_, _*ℤ_, sucℤ-*ℤ, +ℤ-sucℤ, +ℤ-assoc, +ℤ-idr}
 use lib.Signed.{_≤ℤ_, quotZ, remZ}
 use Rattle.grid.specs.Grid.{anchor, gridPoint}
-use Rattle.basis.proofs.Integers.{less, plus-minus, minus-plus, times-rem, times-quot, quot-times}
+use Rattle.basis.proofs.Integers.{pos-minus, plus-minus, minus-plus, times-rem, times-quot, quot-times}
 
 next : (s : ℕ) (n : ℤ) → gridPoint s (sucℤ n) ≡ gridPoint s n +ℤ pos s
 next s n = ap (λ x. pos anchor +ℤ x) (sucℤ-*ℤ n (pos s)) ∙ sym (+ℤ-assoc (pos anchor) (n *ℤ pos s) (pos s))
@@ -26,7 +26,7 @@ further s n (suc w) =
 -- from grid number −200 on no point is below zero
 pub point-above : (s : ℕ) (n : ℤ) → s ≤ 1000 → negℤ (pos 200) ≤ℤ n → gridPoint s n ≡ pos (natAbs (gridPoint s n))
 point-above s (pos a) h low = refl
-point-above s (negsuc a) h low = let e = less anchor (suc a * s) under in e ∙ ap (λ x. pos (natAbs x)) (sym e)
+point-above s (negsuc a) h low = let e = pos-minus anchor (suc a * s) under in e ∙ ap (λ x. pos (natAbs x)) (sym e)
   where
     under : suc a * s ≤ anchor
     under =
