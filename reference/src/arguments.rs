@@ -1,6 +1,7 @@
 //! Command lines of the form `--name value`, for the programs of this package.
 
 use std::collections::BTreeMap;
+use std::ops::RangeInclusive;
 
 #[derive(Debug)]
 pub struct Arguments {
@@ -45,8 +46,21 @@ impl Arguments {
         number(self.needed_text(name)?)
     }
 
+    pub fn needed_number_within(
+        &self,
+        name: &str,
+        limits: RangeInclusive<u64>,
+    ) -> Result<u64, String> {
+        let number = self.needed_number(name)?;
+        if limits.contains(&number) {
+            Ok(number)
+        } else {
+            Err(format!("{name} {number} is not from {} to {}", limits.start(), limits.end()))
+        }
+    }
+
     /// A range `A..B`, both ends included, or a single number.
-    pub fn needed_range(&self, name: &str) -> Result<std::ops::RangeInclusive<u64>, String> {
+    pub fn needed_range(&self, name: &str) -> Result<RangeInclusive<u64>, String> {
         let text = self.needed_text(name)?;
         let (first, last) = text.split_once("..").unwrap_or((text, text));
         Ok(number(first)?..=number(last)?)
@@ -81,5 +95,9 @@ mod tests {
         assert_eq!(read("--lines").unwrap_err(), "--lines needs a value");
         assert!(read("--lines x").unwrap().needed_number("--lines").is_err());
         assert!(read("").unwrap().needed_range("--seeds").is_err());
+        let twenty_within =
+            |limits| read("--lines 20").unwrap().needed_number_within("--lines", limits);
+        assert_eq!(twenty_within(1..=20), Ok(20));
+        assert_eq!(twenty_within(21..=64).unwrap_err(), "--lines 20 is not from 21 to 64");
     }
 }

@@ -1,4 +1,5 @@
-//! What lines count as: the steps, circuits with their returns, accounts, frequency plans.
+//! What lines count as: the steps, circuits with their returns, accounts, load reports, frequency
+//! plans.
 
 mod common;
 
@@ -7,7 +8,9 @@ use common::{
     standing,
 };
 use ring::circuit::Circuit;
-use ring::coverage::{grid_events, Coverage, Event, GridEvent, LineFault, Off, Way, SCRIPT_EVENTS};
+use ring::coverage::{
+    grid_events, Coverage, Event, GridEvent, LineFault, Off, Way, PLAN_EVENTS, SCRIPT_EVENTS,
+};
 use ring::form::{write, Fault, FORM_MOST};
 use ring::place::Direction::{Clockwise, Counterclockwise};
 use ring::place::Place;
@@ -17,13 +20,17 @@ use ring::table::{Channel, Table};
 
 /// The planner reads the table and opens the circuit; both count.
 fn coverage(table: &Table, new: Circuit) -> Coverage {
-    let mut form = [0; FORM_MOST];
-    let length = write(table, &mut form).unwrap();
     let Circuit { number, source, destination, remark, account } = new;
     coverage_of(&[
-        &format!("read {}", hexadecimal(&form[..length])),
+        &read_line(table),
         &format!("open {number} {source} {destination} {remark} {account}"),
     ])
+}
+
+fn read_line(table: &Table) -> String {
+    let mut form = [0; FORM_MOST];
+    let length = write(table, &mut form).unwrap();
+    format!("read {}", hexadecimal(&form[..length]))
 }
 
 fn coverage_of(lines: &[&str]) -> Coverage {
@@ -199,6 +206,48 @@ fn forms_with_a_circuit_and_its_return() {
     assert_eq!(reads(2, 2), (1, 0));
     assert_eq!(reads(3, 2), (0, 1));
     assert_eq!(reads(2, 4), (0, 0));
+}
+
+/// The events of the load report of the table, each of which came once.
+fn load_events(table: &Table) -> Vec<Event> {
+    let coverage = coverage_of(&[&read_line(table), "load"]);
+    let of_reading = coverage_of(&[&read_line(table)]);
+    let comes_with_load = |event: &Event| coverage.count(*event) > of_reading.count(*event);
+    let reached: Vec<Event> = PLAN_EVENTS.into_iter().filter(comes_with_load).collect();
+    assert!(reached.iter().all(|&event| coverage.count(event) == 1));
+    reached
+}
+
+#[test]
+fn load_reports_by_the_ring_and_its_lightpaths() {
+    use Event::*;
+    assert_eq!(load_events(&ring(&[1; 5])), [Load, LoadOfNone]);
+    assert_eq!(load_events(&ring(&[1; 64])), [Load, LoadOfNone, LoadOfLargestRing]);
+    let one = |place, source, destination| {
+        load_events(&standing(&[1; 5], &[(place, circuit(1, source, destination))]))
+    };
+    assert_eq!(one(0, 1, 3), [Load, LoadFalls(Clockwise)]);
+    assert_eq!(one(1, 3, 1), [Load, LoadFalls(Counterclockwise)]);
+    // Link 1 after link N is not one in the report.
+    assert_eq!(one(2, 4, 1), [Load, LoadOverLastLink(Clockwise)]);
+    assert_eq!(one(3, 1, 4), [Load, LoadOverLastLink(Counterclockwise)]);
+    let over_and_falling = [Load, LoadOverLastLink(Clockwise), LoadFalls(Clockwise)];
+    assert_eq!(one(2, 4, 2), over_and_falling);
+}
+
+#[test]
+fn load_reports_where_one_lightpath_begins_and_another_ends() {
+    use Event::*;
+    let meeting_at_3 = |first, second| {
+        let circuits = [(first, circuit(1, 1, 3)), (second, circuit(2, 3, 4))];
+        let mut events = load_events(&standing(&[1; 5], &circuits));
+        events.retain(|event| matches!(event, LoadOfPair | LoadBeginsAndEnds(_)));
+        events
+    };
+    assert_eq!(meeting_at_3(0, 0), [LoadOfPair, LoadBeginsAndEnds(Clockwise)]);
+    assert_eq!(meeting_at_3(0, 2), [LoadBeginsAndEnds(Clockwise)]);
+    assert_eq!(meeting_at_3(1, 3), [LoadBeginsAndEnds(Counterclockwise)]);
+    assert_eq!(meeting_at_3(0, 1), []);
 }
 
 /// The events of a line on a frequency plan that follows a ring; all have its first word.

@@ -4,11 +4,12 @@ use std::collections::BTreeSet;
 
 use ring::comparison::Expected;
 use ring::coverage::{Coverage, Event};
-use ring::form::FORM_MOST;
-use ring::generator::{script, Generator, Kind};
+use ring::form::{read, FORM_MOST};
+use ring::generator::{form, script, Generator, Kind};
 use ring::place::Direction::{Clockwise, Counterclockwise};
 use ring::plan::{hexadecimal, parse, Answer, Command, Planner, Question, Source};
 use ring::program::Program;
+use ring::table::Channel;
 
 const PROGRAMS: [Program; 2] = [Program::Script, Program::Plan];
 const KINDS: [Kind; 5] = [Kind::Small, Kind::Large, Kind::Mixed, Kind::Light, Kind::Forms];
@@ -104,6 +105,38 @@ fn scripts_of_forms_read_and_write_longest_ones_and_many() {
         forms.insert(form);
     }
     assert_eq!(forms.len(), 48);
+}
+
+#[test]
+fn forms_have_the_nodes_and_circuits_asked_for() {
+    for nodes in 3..=64 {
+        for circuits in [1, 2, 64, 127, 128, 191, 192] {
+            let table = read(&form(nodes, circuits, 7)).unwrap();
+            assert_eq!((table.nodes, table.circuits().count()), (nodes, circuits));
+            assert_eq!(table.ring_ports(), 192);
+            let (most, least) = (table.ports_at(1), table.ports_at(nodes));
+            assert!(most - least <= 1, "{nodes} nodes");
+        }
+    }
+}
+
+#[test]
+fn forms_have_shared_places_and_both_directions() {
+    for (nodes, circuits) in [(64, 192), (64, 128), (50, 192), (16, 64), (3, 192), (5, 20)] {
+        for seed in 0..8 {
+            let table = read(&form(nodes, circuits, seed)).unwrap();
+            let lit = table.channels.iter().filter(|&&channel| channel != Channel::Unlit).count();
+            assert!(lit < circuits, "no place is shared: {nodes} {circuits} {seed}");
+            let has = |way| table.lightpaths().any(|path| path.place.direction() == way);
+            assert!(has(Clockwise) && has(Counterclockwise), "{nodes} {circuits} {seed}");
+        }
+    }
+}
+
+#[test]
+fn a_seed_gives_one_form_and_another_seed_another() {
+    assert_eq!(form(64, 192, 5), form(64, 192, 5));
+    assert_ne!(form(64, 192, 5), form(64, 192, 6));
 }
 
 #[test]

@@ -1,7 +1,7 @@
--- Arrays of structs, and the first elements of an array, lent. Assumes nothing.
-use Prim.Native.Nat.{ℕ, _≤_}
+-- Arrays of structs, and the first elements of an array, counted and lent. Assumes nothing.
+use Prim.Native.Nat.{ℕ, zero, suc, _≤_, zero-le, suc-le-suc}
 use mathlib.Core.Path.{_≡_, sym, _∙_}
-use mathlib.Core.List.{List, map}
+use mathlib.Core.List.{List, [], _∷_, map}
 use native.Mathlib.Omega.{arith}
 use lib.ListN.{length, take, length-map}
 use lib.Seq.{length-take-le}
@@ -9,6 +9,12 @@ use lib.Seq.{length-take-le}
 -- the length of an array of structs, which is known of the list of what they are stored as
 pub array-length : (X Y : Type 0) (stored : X → Y) (array : List X) (n : ℕ) → length (map stored array) ≡ n → length array ≡ n
 array-length X Y stored array n e = sym (length-map array stored) ∙ e
+
+-- the first n elements are at most n
+pub take-most : {A : Type 0} (n : ℕ) (xs : List A) → length (take n xs) ≤ n
+take-most zero xs = zero-le
+take-most (suc n) [] = zero-le
+take-most (suc n) (x ∷ xs) = suc-le-suc (take-most n xs)
 
 -- what a caller that lends the first n elements of an array has to show: they are there
 pub lent-within : {A : Type 0} (array : List A) (width n : ℕ) → length array ≡ width → n ≤ width → n ≤ length array

@@ -18,6 +18,27 @@ pub weigh-append : {A : Type 0} (w : A → ℕ) (xs ys : List A) → weigh w (xs
 weigh-append w [] ys = omega arith
 weigh-append w (x ∷ xs) ys = omega (arith, weigh-append w xs ys)
 
+-- two weights that agree on each element agree on the list
+pub weigh-same : {A : Type 0} (f g : A → ℕ) (xs : List A) → All (λ x. f x ≡ g x) xs → weigh f xs ≡ weigh g xs
+weigh-same f g [] h = refl
+weigh-same f g (x ∷ xs) h = omega (arith, weigh-same f g xs (h .1))
+
+-- two weights whose sum is that of two others on each element have that sum on the list
+pub weigh-balance : {A : Type 0} (f g h k : A → ℕ) (xs : List A) → All (λ x. f x + g x ≡ h x + k x) xs
+    → weigh f xs + weigh g xs ≡ weigh h xs + weigh k xs
+weigh-balance f g h k [] e = refl
+weigh-balance f g h k (x ∷ xs) e = omega (arith, weigh-balance f g h k xs (e .1))
+
+-- a list in which each element weighs at most 1 weighs at most its length
+pub weigh-most : {A : Type 0} (w : A → ℕ) → ((x : A) → w x ≤ 1) → (xs : List A) → weigh w xs ≤ length xs
+weigh-most w h [] = omega arith
+weigh-most w h (x ∷ xs) = omega (arith, h x, weigh-most w h xs)
+
+-- and so it does by two weights of which each element has at most 1 together
+pub weigh-apart : {A : Type 0} (f g : A → ℕ) (xs : List A) → All (λ x. f x + g x ≤ 1) xs → weigh f xs + weigh g xs ≤ length xs
+weigh-apart f g [] h = omega arith
+weigh-apart f g (x ∷ xs) h = omega (arith, weigh-apart f g xs (h .1))
+
 -- where each element weighs nothing, the list does
 pub none-weigh : {A : Type 0} (w : A → ℕ) (xs : List A) → All (λ x. w x ≡ 0) xs → weigh w xs ≡ 0
 none-weigh w [] h = refl

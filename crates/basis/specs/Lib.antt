@@ -1,4 +1,5 @@
--- Choosing, counting and searching.
+-- Choosing, counting, counting by key, and searching.
 pub mod Choice
 pub mod Count
+pub mod Tallied
 pub mod Search

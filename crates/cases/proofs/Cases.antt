@@ -2,7 +2,7 @@
 use mathlib.Core.Path.{_≡_, refl}
 use mathlib.Core.List.{List, [], _∷_, map}
 use Rattle.basis.specs.Count.{All}
-use Rattle.lightpath.specs.Circuit.{ahead}
+use Rattle.lightpath.specs.Circuit.{ahead, users}
 use Rattle.lit_words.specs.Lit.{bitOf, word, noneLitFrom}
 use Rattle.moves.specs.Lent.{written}
 use Rattle.steps.specs.Steps.{planOf}
@@ -12,6 +12,8 @@ use Rattle.ring.specs.Closing.{closeOf}
 use Rattle.form.specs.Bytes.{highFirst, numberFrom}
 use Rattle.form.specs.Form.{mapBytes, fieldMap, optionalBytes, circuitBytes, recordBytes, recordsBytes, formOf}
 use Rattle.form.specs.Reading.{readPorts, mapBit, readMap, readOptional, readCircuit, mapHolds, readSecond, readRecord, readPlaceBy, readRecordsBy, checked, readTable, readOf}
+use Rattle.load.specs.Load.{lightpathsBelow, loadsTo}
+use Rattle.load.specs.Report.{reportOf}
 use Rattle.grid.specs.Grid.{frequencyAt, wavelengthAt}
 use Rattle.grid.specs.Tuning.{tunedOf, carriedOf}
 use Rattle.cases.specs.Case.{Case, answerTo, Holds}
@@ -24,7 +26,7 @@ each (c ∷ cs) e = ((cc), each cs (cc))
 
 -- the answers to the table's, computed
 computed : map (λ c. answerTo (c .asked)) cases ≡ map (λ c. c .expected) cases
-unfolding ahead word noneLitFrom makeOf decideOf closeOf planOf written formOf mapBytes recordsBytes recordBytes fieldMap circuitBytes highFirst optionalBytes bitOf numberFrom readOf readTable checked readRecordsBy readPlaceBy readRecord readSecond mapHolds readCircuit readOptional readMap mapBit readPorts tunedOf carriedOf frequencyAt wavelengthAt
+unfolding ahead word noneLitFrom makeOf decideOf closeOf planOf written formOf mapBytes recordsBytes recordBytes fieldMap circuitBytes highFirst optionalBytes bitOf numberFrom readOf readTable checked readRecordsBy readPlaceBy readRecord readSecond mapHolds readCircuit readOptional readMap mapBit readPorts tunedOf carriedOf frequencyAt wavelengthAt users lightpathsBelow loadsTo reportOf
 computed = refl
 
 -- so each of its cases holds

@@ -3,13 +3,13 @@
 use Prim.Native.Nat.{ℕ, _+_}
 use mathlib.Core.Path.{_≡_}
 use mathlib.Core.List.{List, [], _∷_, _++_}
-use lib.ListN.{length, getD}
+use lib.ListN.{length, getD, replicate}
 use Rattle.basis.specs.Choice.{pick}
 use Rattle.basis.specs.Count.{total}
 use Rattle.lightpath.specs.declared.Direction.{Direction}
 use Rattle.lightpath.specs.declared.Direction.the-variants.{Clockwise as clockwise, Counterclockwise as counterclockwise}
 use Rattle.lightpath.specs.declared.Circuit.{Circuit}
-use Rattle.lightpath.specs.Circuit.{hops, adjacent, canShare}
+use Rattle.lightpath.specs.Circuit.{next, hops, adjacent, canShare}
 use Rattle.lightpath.specs.BeforeE1.{canShareBeforeE1}
 use Rattle.moves.specs.declared.Move.{Move}
 use Rattle.moves.specs.Lent.{blanks}
@@ -25,6 +25,9 @@ use Rattle.ring.specs.Closing.{closeOf}
 use Rattle.ring.specs.Answer.{openingAnswer}
 use Rattle.form.specs.Form.{formOf}
 use Rattle.form.specs.Reading.{readOf}
+use Rattle.load.specs.Load.{linkLoad}
+use Rattle.load.specs.NextLink.{grows, falls}
+use Rattle.load.specs.Report.{reportOf, bufferAfter}
 
 -- what a case asks
 pub data Question : Type 0 where
@@ -48,6 +51,10 @@ pub data Question : Type 0 where
   tuning : GridPlan → ℕ → Question
   -- a frequency, by such a plan
   tracing : GridPlan → ℕ → Question
+  -- the load report of a table, into so many bytes of 99
+  reporting : RingTable → ℕ → Question
+  -- from a link to the next clockwise, in a direction
+  stepping : RingTable → Direction → ℕ → Question
 
 -- what it expects
 pub data Answer : Type 0 where
@@ -62,6 +69,10 @@ pub data Answer : Type 0 where
   saved : ℕ → ℕ → Answer
   -- the number and values of a frequency or of a wavelength
   told : Reply → Answer
+  -- the number of a report, and the bytes after it
+  reported : Reply → List ℕ → Answer
+  -- the next link; the load, what it grows and falls by at the node between, and the load there
+  stepped : ℕ → ℕ → ℕ → ℕ → ℕ → Answer
 
 -- the table after a making, a closing or a reading
 abbrev pub done : RingTable → Answer
@@ -114,6 +125,10 @@ answerTo (closing t n) = replied (verdictAnswer (closeOf t n .verdict)) [] (clos
 answerTo (reading s) = replied (verdictAnswer (readOf s .verdict)) [] (readOf s .table)
 answerTo (tuning p w) = told (tunedAnswer (tunedOf p w))
 answerTo (tracing p f) = told (carriedAnswer (carriedOf p f))
+answerTo (reporting t n) = reported (verdictAnswer (reportOf t n)) (bufferAfter t (replicate n 99))
+answerTo (stepping t d l) =
+    let m = next (t .nodes) l in
+    stepped m (linkLoad (t .nodes) (t .channels) d l) (grows (t .channels) d m) (falls (t .channels) d m) (linkLoad (t .nodes) (t .channels) d m)
 answerTo (saving t) = saved (length (formOf t)) (getD (formOf t) (mapStart t) 0)
 
 -- a case holds when that is what it expects

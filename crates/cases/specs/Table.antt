@@ -15,7 +15,7 @@ use Rattle.refusals.specs.Answer.{refusal}
 use Rattle.ring.specs.declared.RingTable.{RingTable}
 use Rattle.ring.specs.Table.{blankTable}
 use Rattle.form.specs.Form.{formOf}
-use Rattle.cases.specs.Case.{pair, pairBeforeE1, ports, making, opening, closing, saving, reading, tuning, tracing, Question, shares, notAdjacent, dimensions, saved, told, done, refused, opened, notOpened, Answer, Case, _gives_}
+use Rattle.cases.specs.Case.{pair, pairBeforeE1, ports, making, opening, closing, saving, reading, tuning, tracing, reporting, stepping, Question, shares, notAdjacent, dimensions, saved, told, reported, stepped, done, refused, opened, notOpened, Answer, Case, _gives_}
 
 -- a circuit without a remark and without an account: number, source, destination
 abbrev circuit : ℕ → ℕ → ℕ → Circuit
@@ -238,6 +238,27 @@ frequencies =
     ∷ wavelength 1000 (pos 0) 4294967295 gives isRefused 43
     ∷ []
 
+-- a report that is made leaves these bytes
+abbrev bytes : List ℕ → Answer
+bytes l = reported (record { number = 0; values = [] }) l
+
+-- 02, E4: load reports, and loads from link to link, of the table that 01's script leaves, with circuits both ways and two shared places
+abbrev loads : List Case
+loads =
+    reporting made 10 gives bytes (replicate 10 0)
+    ∷ reporting opened11 10 gives bytes (1 ∷ 0 ∷ 1 ∷ 0 ∷ 1 ∷ 0 ∷ 1 ∷ 0 ∷ 0 ∷ 0 ∷ [])
+    ∷ reporting opened16 12 gives bytes (1 ∷ 2 ∷ 1 ∷ 2 ∷ 1 ∷ 2 ∷ 1 ∷ 2 ∷ 0 ∷ 1 ∷ 99 ∷ 99 ∷ [])
+    ∷ reporting opened16 9 gives reported (refusal 21) (replicate 9 99)
+    ∷ reporting blankTable 12 gives reported (refusal 22) (replicate 12 99)
+    -- link 1 after link 5
+    ∷ stepping opened16 clockwise 5 gives stepped 1 0 1 0 1
+    ∷ stepping opened16 counterclockwise 5 gives stepped 1 1 1 0 2
+    -- one begins where another ends, and two steps where one ends
+    ∷ stepping opened16 counterclockwise 1 gives stepped 2 2 1 1 2
+    ∷ stepping opened16 counterclockwise 4 gives stepped 5 2 0 1 1
+    ∷ stepping opened16 clockwise 4 gives stepped 5 1 0 1 0
+    ∷ []
+
 -- what is asked, and what the documents say to it
 abbrev pub cases : List Case
 cases =
@@ -323,4 +344,4 @@ cases =
     -- bit 2 or bit 4 without bit 1, and bits 5 to 7, with every field after them and with none
     ∷ map (λ m. (m ∷ n1 ++ r1 ++ a1 ++ n2 ++ r2 ++ a2) refusedBy 31) badMaps
     ++ map (λ m. (m ∷ []) refusedBy 31) badMaps
-    ++ frequencies
+    ++ frequencies ++ loads

@@ -42,7 +42,11 @@ pub read-meets : (s : List ℕ) → readOf s .verdict ≡ granted → meetsRules
 unfolding readOf
 read-meets s e = granted-holds _ (readTable s) (table-meets s) e .1
 
--- and writes back to the very bytes read
+-- and so does the table of an answer that is what reading gives
+pub accepted-meets : (s : List ℕ) (a : Answered) → a ≡ readOf s → a .verdict ≡ granted → meetsRules (a .table) ≡ true
+accepted-meets s a e g = rw e (read-meets s (rw e at g))
+
+-- what is read without a refusal writes back to the very bytes read
 pub write-back : (s : List ℕ) → AreBytes s → readOf s .verdict ≡ granted → formOf (readOf s .table) ≡ s
 unfolding readOf
 write-back s h e = granted-holds _ (readTable s) (table-wrote s h) e .1

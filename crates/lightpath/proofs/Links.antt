@@ -41,11 +41,11 @@ unfolding ahead
 ahead-lt N s x h = mod-lt (x + N - s) h
 
 -- it is x − s where x comes after s, and otherwise N more
-abbrev Ahead : ℕ → ℕ → ℕ → Type 0
+abbrev pub Ahead : ℕ → ℕ → ℕ → Type 0
 Ahead N s x = ((s ≤ x) × (ahead N s x ≡ x - s)) ⊎ ((x < s) × (ahead N s x ≡ x + N - s))
 
 -- which is what (x − s) modulo N comes to
-ahead-cases : (N s x : ℕ) → 1 ≤ s → s ≤ N → 1 ≤ x → x ≤ N → Ahead N s x
+pub ahead-cases : (N s x : ℕ) → 1 ≤ s → s ≤ N → 1 ≤ x → x ≤ N → Ahead N s x
 unfolding ahead
 ahead-cases N s x sl sh xl xh = go (decLe s x)
   where

@@ -17,6 +17,10 @@ blankCircuit = record { number = 0; source = 0; destination = 0; remark = 0; acc
 abbrev pub onRing : ℕ → ℕ → Bool
 onRing N i = leb 1 i && leb i N
 
+-- the next node clockwise after node i, 1 after N; link i joins the two, and the next link clockwise has the number of the node between
+abbrev pub next : ℕ → ℕ → ℕ
+next N i = pick (ltb i N) (i + 1) 1
+
 -- source and destination are on the ring and different
 abbrev pub joins : ℕ → Circuit → Bool
 joins N c = onRing N (c .source) && onRing N (c .destination) && not (eqb (c .source) (c .destination))

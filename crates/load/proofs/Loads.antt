@@ -10,7 +10,7 @@ use Rattle.basis.specs.Choice.{bit}
 use Rattle.basis.specs.Count.{All}
 use Rattle.basis.proofs.Bools.{all-join}
 use Rattle.basis.proofs.Weigh.{weigh-append}
-use Rattle.limits.specs.Limits.{mostWavelengths, placeCount}
+use Rattle.limits.specs.Limits.{mostWavelengths}
 use Rattle.lightpath.specs.Place.{placeOf}
 use Rattle.lightpath.specs.Circuit.{uses, users}
 use Rattle.lightpath.specs.declared.Direction.{Direction}
@@ -26,6 +26,7 @@ use Rattle.ring.specs.Table.{meetsRules}
 use Rattle.ring.specs.declared.RingTable.{RingTable}
 use Rattle.ring.proofs.TableRules.{table-rules}
 use Rattle.load.specs.Load.{lightpathsBelow, linkLoad, loadsTo, loads}
+use Rattle.load.proofs.NextLink.{place-inside}
 
 -- the lightpaths over link l in direction d
 module _ (N : ℕ) (ks : List ℕ) (t : Channels) (rules : Rules N ks t) (d : Direction) (l : ℕ) (low : 1 ≤ l) (high : l ≤ N) where
@@ -44,12 +45,8 @@ module _ (N : ℕ) (ks : List ℕ) (t : Channels) (rules : Rules N ks t) (d : Di
   -- and none from W up
   none-above : (w : ℕ) → w < mostWavelengths → wavelengths ks ≤ w → on w ≡ 0
   unfolding users
-  none-above w i h = rw (above-unlit (limitOf ks) t (rules .unused) (placeOf w d) (inside d) (above d))
+  none-above w i h = rw (above-unlit (limitOf ks) t (rules .unused) (placeOf w d) (place-inside w d i) (above d))
     where
-      inside : (d : Direction) → placeOf w d < placeCount
-      inside clockwise = omega arith
-      inside counterclockwise = omega arith
-
       above : (d : Direction) → limitOf ks ≤ placeOf w d
       above clockwise = omega arith
       above counterclockwise = omega arith

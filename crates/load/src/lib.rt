@@ -1,84 +1,57 @@
-// The load report of a ring: how many lightpaths run over each link, each way.
+// The load report of a ring: how many lightpaths run over each link, each way, in one walk round it.
+
+mod ends;
 
 ghost use mathlib.Core.Path.{_≡_};
 ghost use mathlib.Core.Bool.{true};
 ghost use mathlib.Core.List.{[], _++_};
-ghost use Prim.Native.Nat.{_*_, _<_, _≤_};
+ghost use Prim.Native.Nat.{_*_, _≤_};
 ghost use lib.ListN.{length, drop};
-ghost use Rattle.limits.specs.Limits.{mostWavelengths};
-ghost use Rattle.lightpath.specs.Place.{placeOf};
-ghost use Rattle.slots.specs.Slot.{held};
-ghost use Rattle.channels.specs.Channels.{at};
+ghost use Rattle.limits.specs.Limits.{mostNodes};
 ghost use Rattle.refusals.specs.Answer.{verdictAnswer, answerBy};
 ghost use Rattle.ring.specs.Table.{meetsRules};
-ghost use Rattle.lightpath.specs.Circuit.{users};
-ghost use Rattle.load.specs.Load.{linkLoad, loads};
+ghost use Rattle.load.specs.Walk.{running, Walks, pairsTo};
 ghost use Rattle.load.specs.Report.{reportOf, reportReasons, bufferAfter};
-use channels::Channel;
+use ends::NODE_ROOM;
 use lightpath::Direction;
-use lightpath::Wavelength;
 use limits::MOST_WAVELENGTHS;
-use limits::PLACE_COUNT;
+use limits::PORT_FIELDS;
 use refusals::Refusal;
 use refusals::Verdict;
 use ring::RingTable;
-use slots::Slot;
 
-// How many of the circuits of a place, lightpaths in its direction, use a link.
-fn users(nodes: u8, direction: Direction, link: u8, slot: Slot) -> u8
-    requires { ⌜ 0 < nodes ⌝ }
-    ensures { λ r. ⌜ r ≡ users nodes direction link (held slot) ⌝ }
-{
-    match slot {
-        Slot::Unlit => 0,
-        Slot::Alone(a) => a.uses(nodes, direction, link) as u8,
-        Slot::Shared(a, b) => {
-            a.uses(nodes, direction, link) as u8 + b.uses(nodes, direction, link) as u8
-        }
-    }
-}
+// The bytes of the longest report: two for each link.
+pub const MOST_LOADS: usize = 2 * PORT_FIELDS;
 
-// How many lightpaths of a wavelength in a direction use a link.
-fn users_on(
+// Walks round the ring from link N on and writes the running load of each link, each way, into the first bytes of a buffer that has room
+// for them. At each node the lightpaths that begin are added and those that end taken off: clockwise ones start and stop there,
+// counterclockwise ones join and leave.
+fn walk(
     nodes: u8,
-    channels: [Channel; PLACE_COUNT],
-    wavelength: u8,
-    direction: Direction,
-    link: u8,
-) -> u8
-    requires { ⌜ (0 < nodes) × (wavelength < mostWavelengths) ⌝ }
-    ensures { λ r. ⌜ r ≡ users nodes direction link (held (at channels (placeOf wavelength direction))) ⌝ }
+    first: u8,
+    starts: &[u8; NODE_ROOM],
+    stops: &[u8; NODE_ROOM],
+    second: u8,
+    joins: &[u8; NODE_ROOM],
+    leaves: &[u8; NODE_ROOM],
+    out: &mut [u8],
+)
+    requires room { ⌜ (nodes ≤ mostNodes) × (2 * nodes ≤ length (now out)) ⌝ }
+    requires clockwise { ⌜ Walks nodes (now starts) (now stops) first ⌝ }
+    requires counterclockwise { ⌜ Walks nodes (now joins) (now leaves) second ⌝ }
+    ensures { λ _. ⌜ now (out .exit) ≡ pairsTo nodes (running (now (starts .entry)) (now (stops .entry)) first) (running (now (joins .entry)) (now (leaves .entry)) second) ++ drop (2 * nodes) (now (out .entry)) ⌝ }
 {
-    let place = Wavelength(wavelength).place(direction);
-    let slot = channels::slot_at(channels, place.0 as usize);
-    users(nodes, direction, link, slot)
-}
-
-// The number of lightpaths over a link in a direction.
-pub fn link_load(nodes: u8, channels: [Channel; PLACE_COUNT], direction: Direction, link: u8) -> u8
-    requires { ⌜ 0 < nodes ⌝ }
-    ensures { λ r. ⌜ r ≡ linkLoad nodes channels direction link ⌝ }
-{
-    let mut sum: u8 = 0;
-    let mut w: u8 = 0;
-    while w < MOST_WAVELENGTHS {
-        sum += users_on(nodes, channels, w, direction, link);
-        w += 1;
-    }
-    sum
-}
-
-// The loads of every link, each way, into the first bytes of a buffer that has room for them.
-fn fill(nodes: u8, channels: [Channel; PLACE_COUNT], out: &mut [u8])
-    requires { ⌜ (0 < nodes) × (2 * nodes ≤ length (now out)) ⌝ }
-    ensures { λ _. ⌜ now (out .exit) ≡ loads nodes channels ++ drop (2 * nodes) (now (out .entry)) ⌝ }
-{
+    let mut load = first;
+    let mut other = second;
     let mut link: u8 = 0;
     while link < nodes {
         let at = 2 * link as usize;
         link += 1;
-        out[at] = link_load(nodes, channels, Direction::Clockwise, link);
-        out[at + 1] = link_load(nodes, channels, Direction::Counterclockwise, link);
+        let node = link as usize;
+        load = load + starts[node] - stops[node];
+        other = other + joins[node] - leaves[node];
+        out[at] = load;
+        out[at + 1] = other;
     }
 }
 
@@ -92,8 +65,38 @@ pub fn report_valid(table: RingTable, out: &mut [u8]) -> Verdict
     if out.len() < 2 * table.nodes as usize {
         return Verdict::Refused(Refusal::ShortBuffer);
     }
-    let channels = table.channels;
-    fill(table.nodes, channels, out);
+    let mut from = [0u8; NODE_ROOM];
+    let mut to = [0u8; NODE_ROOM];
+    let mut last: u8 = 0;
+    let mut counter_from = [0u8; NODE_ROOM];
+    let mut counter_to = [0u8; NODE_ROOM];
+    let mut counter_last: u8 = 0;
+    // A wavelength's two places, clockwise and counterclockwise.
+    let mut w: usize = 0;
+    while w < MOST_WAVELENGTHS as usize {
+        let channel = table.channels[2 * w];
+        let slot = channel.slot;
+        last += ends::count_place(slot, Direction::Clockwise, &mut from, &mut to);
+        let channel = table.channels[2 * w + 1];
+        let slot = channel.slot;
+        counter_last += ends::count_place(
+            slot,
+            Direction::Counterclockwise,
+            &mut counter_from,
+            &mut counter_to,
+        );
+        w += 1;
+    }
+    walk(
+        table.nodes,
+        last,
+        &from,
+        &to,
+        counter_last,
+        &counter_to,
+        &counter_from,
+        out,
+    );
     Verdict::Granted
 }
 

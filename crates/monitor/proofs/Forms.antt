@@ -15,22 +15,17 @@ use Rattle.channels.specs.Channels.{at}
 use Rattle.ports.specs.Ports.{wavelengths}
 use Rattle.refusals.specs.declared.Refusal.{Refusal}
 use Rattle.refusals.specs.declared.Verdict.the-variants.{Granted as granted, Refused as refused}
-use Rattle.ring.specs.Table.{meetsRules}
 use Rattle.ring.specs.declared.RingTable.{RingTable}
 use Rattle.ring.specs.declared.Answered.{Answered}
 use Rattle.form.specs.Reading.{readOf}
-use Rattle.form.proofs.Laws.{read-meets}
+use Rattle.form.proofs.Laws.{read-meets, accepted-meets}
 use Rattle.link_question.specs.Link.{noCircuit, refusalOf, linkOf}
 use Rattle.monitor.specs.Question.{ringLink}
 use Rattle.link_question.proofs.Runs.{one-runs, answer-runs, answer-none}
 
 -- the answer, from what was read
 module _ (form : List ℕ) (a : Answered) (e : a ≡ readOf form) where
-  -- a form that is accepted gives a table that meets the rules
-  pub accepted-meets : a .verdict ≡ granted → meetsRules (a .table) ≡ true
-  accepted-meets g = rw e (read-meets form (rw e at g))
-
-  -- its answer is the table's
+  -- where a form is accepted, it is the table's
   pub accepted-link : (l w d r : ℕ) → a .verdict ≡ granted → r ≡ linkOf (a .table) l w d → r ≡ ringLink form l w d
   unfolding ringLink
   accepted-link l w d r g h = rw (← e, g) h

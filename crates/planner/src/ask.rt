@@ -11,11 +11,8 @@ ghost use Rattle.buffer.specs.Appended.{Appended};
 ghost use Rattle.picture.specs.Room.{pictureRoom};
 ghost use Rattle.planner.specs.Asks.{Asks};
 use form::LONGEST_FORM;
-use limits::PORT_FIELDS;
+use load::MOST_LOADS;
 use ring::RingTable;
-
-// The loads of a ring with the most links: two each.
-const MOST_LOADS: usize = 2 * PORT_FIELDS;
 
 // `write`
 pub fn answer_write(table: RingTable, out: &mut [u8], at: usize) -> usize

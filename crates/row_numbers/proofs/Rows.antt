@@ -1,15 +1,14 @@
 -- The number of a row, by what the row shows. Assumes nothing.
 use Prim.Native.Nat.{ℕ, _+_, _-_, _/_, _%_, _≤_, _<_}
-use mathlib.Core.Path.{_≡_}
+use mathlib.Core.Path.{_≡_, _∙_}
 use mathlib.Core.Bool.{true}
 use native.Mathlib.Omega.{arith}
 use mathlib.Core.List.{List}
 use native.Mathlib.Decide.{decLt}
-use lib.Dec.{ltb}
 use lib.ListN.{length, set, getD, length-set}
 use lib.Seq.{getD-set-same, getD-set-other}
-use Rattle.basis.specs.Choice.{pick}
 use Rattle.limits.specs.Limits.{mostNodes}
+use Rattle.lightpath.specs.Circuit.{next}
 use Rattle.lightpath.specs.declared.Direction.the-variants.{Clockwise as clockwise, Counterclockwise as counterclockwise}
 use Rattle.channels.specs.Channels.{circuits}
 use Rattle.ports.specs.Ports.{portsAt}
@@ -17,24 +16,25 @@ use Rattle.ports_used.specs.PortsUsed.{sends, receives}
 use Rattle.ring.specs.Table.{meetsRules}
 use Rattle.ring.specs.declared.RingTable.{RingTable}
 use Rattle.ring.proofs.TableRules.{table-limits}
-use Rattle.load.specs.Load.{linkLoad}
 use Rattle.link_question.specs.Link.{linkOf}
 use Rattle.row_numbers.specs.declared.Row.{Row}
 use Rattle.row_numbers.specs.declared.Row.the-variants.{To, Place, Clockwise, Counterclockwise, Senders, Receivers}
 use Rattle.row_numbers.specs.Numbers.{numberAt, Numbered}
+use Rattle.row_numbers.specs.Loaded.{loadAt, Loaded}
 
 module _ (t : RingTable) (row : Row) (i n : ℕ) where
-  pub row-to : row ≡ To → n ≡ pick (ltb i (t .nodes)) (i + 1) 1 → n ≡ numberAt t row i
+  pub row-to : row ≡ To → n ≡ next (t .nodes) i → n ≡ numberAt t row i
   row-to e k = rw e k
 
   pub row-place : (p : ℕ) → row ≡ Place p → n ≡ linkOf t i (p / 2) (p % 2) → n ≡ numberAt t row i
   row-place p e k = rw e k
 
-  pub row-clockwise : row ≡ Clockwise → n ≡ linkLoad (t .nodes) (t .channels) clockwise i → n ≡ numberAt t row i
-  row-clockwise e k = rw e k
+  module _ (bytes : List ℕ) (q : Loaded t bytes) (low : 1 ≤ i) (high : i ≤ t .nodes) where
+    pub row-clockwise : row ≡ Clockwise → n ≡ loadAt bytes clockwise i → n ≡ numberAt t row i
+    row-clockwise e k = rw e (k ∙ q .each clockwise i low high)
 
-  pub row-counter : row ≡ Counterclockwise → n ≡ linkLoad (t .nodes) (t .channels) counterclockwise i → n ≡ numberAt t row i
-  row-counter e k = rw e k
+    pub row-counter : row ≡ Counterclockwise → n ≡ loadAt bytes counterclockwise i → n ≡ numberAt t row i
+    row-counter e k = rw e (k ∙ q .each counterclockwise i low high)
 
   pub row-senders : row ≡ Senders → n ≡ portsAt (t .ports) i - sends i (circuits (t .channels)) → n ≡ numberAt t row i
   row-senders e k = rw e k

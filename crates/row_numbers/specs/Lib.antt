@@ -1,2 +1,3 @@
--- The numbers of the picture's rows.
+-- The numbers of the picture's rows, and the loads among them out of a load report.
 pub mod Numbers
+pub mod Loaded

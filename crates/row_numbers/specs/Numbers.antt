@@ -3,10 +3,9 @@
 use Prim.Native.Nat.{ℕ, _+_, _-_, _/_, _%_, _<_}
 use mathlib.Core.Path.{_≡_}
 use mathlib.Core.List.{List}
-use lib.Dec.{ltb}
 use lib.ListN.{length, getD}
-use Rattle.basis.specs.Choice.{pick}
 use Rattle.limits.specs.Limits.{mostNodes}
+use Rattle.lightpath.specs.Circuit.{next}
 use Rattle.lightpath.specs.declared.Circuit.{Circuit}
 use Rattle.lightpath.specs.declared.Direction.the-variants.{Clockwise as clockwise, Counterclockwise as counterclockwise}
 use Rattle.channels.specs.Channels.{circuits}
@@ -29,7 +28,7 @@ nodeAt Destination c = c .destination
 -- does not use
 abbrev pub numberAt : RingTable → Row → ℕ → ℕ
 numberAt t From i = i
-numberAt t To i = pick (ltb i (t .nodes)) (i + 1) 1
+numberAt t To i = next (t .nodes) i
 numberAt t (Place p) i = linkOf t i (p / 2) (p % 2)
 numberAt t Clockwise i = linkLoad (t .nodes) (t .channels) clockwise i
 numberAt t Counterclockwise i = linkLoad (t .nodes) (t .channels) counterclockwise i

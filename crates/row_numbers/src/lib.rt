@@ -2,21 +2,22 @@
 
 ghost use mathlib.Core.Path.{_≡_};
 ghost use mathlib.Core.Bool.{true};
-ghost use Prim.Native.Nat.{_+_, _-_, _/_, _%_, _≤_};
-ghost use lib.Dec.{ltb};
-ghost use Rattle.basis.specs.Choice.{pick};
+ghost use Prim.Native.Nat.{_-_, _*_, _/_, _%_, _≤_};
+ghost use lib.ListN.{length};
 ghost use Rattle.basis.specs.Count.{tally};
+ghost use Rattle.lightpath.specs.Circuit.{next};
 ghost use Rattle.slots.specs.Slot.{held};
 ghost use Rattle.channels.specs.Channels.{circuits};
 ghost use Rattle.ports.specs.Ports.{portsAt};
 ghost use Rattle.ring.specs.Table.{meetsRules};
-ghost use Rattle.load.specs.Load.{linkLoad};
 ghost use Rattle.link_question.specs.Link.{linkOf};
 ghost use Rattle.row_numbers.specs.Numbers.{nodeAt, numberAt, Numbered};
+ghost use Rattle.row_numbers.specs.Loaded.{loadAt, Loaded};
 use channels::Channel;
 use lightpath::Direction;
 use limits::PLACE_COUNT;
 use limits::PORT_FIELDS;
+use load::MOST_LOADS;
 use ring::RingTable;
 use slots::Slot;
 
@@ -41,7 +42,7 @@ enum End {
 
 // The next node clockwise.
 fn next_node(nodes: u8, node: u8) -> u8
-    ensures { λ r. ⌜ r ≡ pick (ltb node nodes) (node + 1) 1 ⌝ }
+    ensures { λ r. ⌜ r ≡ next nodes node ⌝ }
 {
     if node < nodes {
         return node + 1;
@@ -88,13 +89,16 @@ fn free(table: RingTable, end: End, node: u8) -> u64
     (all - used) as u64
 }
 
-// The load of a link in a direction.
-fn load(table: RingTable, direction: Direction, link: u8) -> u64
-    requires { ⌜ meetsRules table ≡ true ⌝ }
-    ensures { λ r. ⌜ r ≡ linkLoad (table .nodes) (table .channels) direction link ⌝ }
+// The load of a link in a direction, out of the bytes of a load report.
+fn load_at(loads: &[u8], direction: Direction, link: u8) -> u8
+    requires { ⌜ (1 ≤ link) × (2 * link ≤ length (now loads)) ⌝ }
+    ensures { λ r. ⌜ r ≡ loadAt (now (loads .entry)) direction link ⌝ }
 {
-    let channels = table.channels;
-    load::link_load(table.nodes, channels, direction, link) as u64
+    let at = 2 * (link as usize - 1);
+    match direction {
+        Direction::Clockwise => loads[at],
+        Direction::Counterclockwise => loads[at + 1],
+    }
 }
 
 // What runs at a place on a link.
@@ -106,16 +110,16 @@ fn running(table: RingTable, place: usize, link: u8) -> u64
 }
 
 // The number of a row at a link or a node; of a row that is a place one may stand for no circuit, as in the one-link question.
-fn number_at(table: RingTable, row: Row, i: u8) -> u64
-    requires { ⌜ meetsRules table ≡ true ⌝ }
+fn number_at(table: RingTable, loads: &[u8], row: Row, i: u8) -> u64
+    requires { ⌜ (meetsRules table ≡ true) × Loaded table (now loads) × (1 ≤ i) × (i ≤ table .nodes) ⌝ }
     ensures { λ r. ⌜ r ≡ numberAt table row i ⌝ }
 {
     match row {
         Row::From => i as u64,
         Row::To => next_node(table.nodes, i) as u64,
         Row::Place(place) => running(table, place, i),
-        Row::Clockwise => load(table, Direction::Clockwise, i),
-        Row::Counterclockwise => load(table, Direction::Counterclockwise, i),
+        Row::Clockwise => load_at(loads, Direction::Clockwise, i) as u64,
+        Row::Counterclockwise => load_at(loads, Direction::Counterclockwise, i) as u64,
         Row::Nodes => i as u64,
         Row::Senders => free(table, End::Source, i),
         Row::Receivers => free(table, End::Destination, i),
@@ -127,10 +131,12 @@ pub fn numbers_of(table: RingTable, row: Row) -> [u64; PORT_FIELDS]
     requires { ⌜ meetsRules table ≡ true ⌝ }
     ensures { λ r. ⌜ Numbered table row (table .nodes) r ⌝ }
 {
+    let mut loads = [0u8; MOST_LOADS];
+    load::report_valid(table, &mut loads);
     let mut numbers = [0u64; PORT_FIELDS];
     let mut i: u8 = 0;
     while i < table.nodes {
-        let n = number_at(table, row, i + 1);
+        let n = number_at(table, &loads, row, i + 1);
         numbers[i as usize] = n;
         i += 1;
     }

@@ -1,21 +1,18 @@
 -- The loops that count ports in use, and the test that goes by their counts. Assumes nothing.
 use Prim.Native.Nat.{ℕ, _+_, _≤_, _<_}
-use mathlib.Core.Path.{_≡_, sym, _∙_}
+use mathlib.Core.Path.{_≡_, _∙_}
 use mathlib.Core.Bool.{Bool, true}
-use mathlib.Core.List.{List, [], _∷_}
-use native.Mathlib.Decide.{ℕ-discrete}
+use mathlib.Core.List.{List}
 use native.Mathlib.Numerals.{add-one}
 use native.Mathlib.Omega.{arith}
-use lib.Dec.{eqb}
-use lib.ListN.{length, getD, take, set, replicate, length-set, length-replicate, getD-replicate}
+use lib.ListN.{length, getD, take, set, replicate}
 use borrow.Author.Tests.{leb-true, le-leb}
-use lib.Seq.{take-suc, getD-set-same, getD-set-other}
+use lib.Seq.{take-suc}
 use mir.Syntax.{w16}
 use mir.Val.{Fits}
-use Rattle.basis.specs.Choice.{bit}
-use Rattle.basis.specs.Count.{tally}
-use Rattle.basis.proofs.Bools.{and-left, and-right, and-both, same-test, bit-eq, bit-ne}
-use Rattle.basis.proofs.Weigh.{weigh-append}
+use Rattle.basis.proofs.Bools.{and-left, and-right, and-both, same-test}
+use Rattle.basis.proofs.Arrays.{take-most}
+use Rattle.basis.proofs.Tallied.{tallied-start as key-start, tallied-low as key-low, tallied-next as key-next}
 use Rattle.basis.proofs.Search.{every-at, at-every}
 use Rattle.limits.specs.Limits.{mostNodes, portFields, circuitRoom}
 use Rattle.lightpath.specs.Circuit.{blankCircuit}
@@ -27,46 +24,20 @@ use Rattle.rules.proofs.Rules.{ports-from, from-ports}
 
 -- the start of a loop that counts by node
 pub tallied-start : (key : Circuit → ℕ) (cs : List Circuit) → Tallied key cs 0 (replicate byteValues 0)
-tallied-start key cs = record {
-  at = λ k l. getD-replicate {A = ℕ} byteValues k 0 0 l;
-  low = λ k l. omega (arith, getD-replicate {A = ℕ} byteValues k 0 0 l);
-  long = length-replicate {A = ℕ} byteValues 0;
-}
+tallied-start key cs = record { first = key-start key byteValues }
 
 -- a count has room for one more
 pub tallied-room : (key : Circuit → ℕ) (cs : List Circuit) (n m k : ℕ) (counts : List ℕ) → Tallied key cs n counts → n < m → m ≤ circuitRoom
     → k < byteValues → Fits w16 (getD counts k 0 + 1)
-tallied-room key cs n m k counts h l most q = record { fits = omega (arith, h .low k q) }
+tallied-room key cs n m k counts h l most q = record { fits = omega (arith, key-low key byteValues (take n cs) counts (h .first) k q, take-most n cs) }
 
 -- its step
 pub tallied-next : (key : Circuit → ℕ) (cs : List Circuit) (n node : ℕ) (counts : List ℕ) → Tallied key cs n counts
     → node ≡ key (getD cs n blankCircuit) → node < byteValues → n < length cs
     → Tallied key cs (n + 1) (set counts node (getD counts node 0 + 1))
 tallied-next key cs n node counts h e m l = record {
-  at = λ k q. goes k q (ℕ-discrete k node);
-  low = λ k q. lows k q (ℕ-discrete k node);
-  long = length-set counts node more ∙ h .long;
+  first = rw (e, add-one, take-suc cs n blankCircuit l) (key-next key byteValues (take n cs) counts (h .first) (getD cs n blankCircuit) (rw (← e) m));
 }
-  where
-    more : ℕ
-    more = getD counts node 0 + 1
-
-    one-more : (k : ℕ) → tally key k (take (n + 1) cs) ≡ tally key k (take n cs) + bit (eqb (key (getD cs n blankCircuit)) k)
-    one-more k =
-        rw (add-one, take-suc cs n blankCircuit l)
-        (omega (arith, weigh-append (λ x. bit (eqb (key x) k)) (take n cs) (getD cs n blankCircuit ∷ [])))
-
-    goes : (k : ℕ) → k < byteValues → Dec (k ≡ node) → getD (set counts node more) k 0 ≡ tally key k (take (n + 1) cs)
-    goes k q (yes s) =
-        rw (s, getD-set-same counts node more 0 (omega (arith, h .long)))
-        (omega (arith, one-more node, h .at node m, bit-eq (key (getD cs n blankCircuit)) node (sym e)))
-    goes k q (no s) =
-        rw (getD-set-other counts node k more 0 s)
-        (omega (arith, one-more k, h .at k q, bit-ne (key (getD cs n blankCircuit)) k (λ w. s (sym (e ∙ w)))))
-
-    lows : (k : ℕ) → k < byteValues → Dec (k ≡ node) → getD (set counts node more) k 0 ≤ n + 1
-    lows k q (yes s) = rw (s, getD-set-same counts node more 0 (omega (arith, h .long))) (omega (arith, h .low node m))
-    lows k q (no s) = rw (getD-set-other counts node k more 0 s) (omega (arith, h .low k q))
 
 -- its end
 pub tallied-end : (key : Circuit → ℕ) (cs : List Circuit) (i n : ℕ) (counts : List ℕ) → Tallied key cs i counts → i ≤ n → n ≤ i → Tallied key cs n counts
@@ -78,7 +49,7 @@ module _ (ks : List ℕ) (cs : List Circuit) (n : ℕ) (sent received : List ℕ
     (r : Tallied (λ c. c .destination) cs n received) (long : length ks ≡ portFields) where
   -- a node's counts are those of what it sends and receives
   at-node : (j : ℕ) → j < mostNodes → (getD sent (j + 1) 0 ≡ sends (1 + j) (take n cs)) × (getD received (j + 1) 0 ≡ receives (1 + j) (take n cs))
-  at-node j l = let e : 1 + j ≡ j + 1 = omega arith in rw e (s .at (j + 1) (omega arith), r .at (j + 1) (omega arith))
+  at-node j l = let e : 1 + j ≡ j + 1 = omega arith in rw e (s .first .at (j + 1) (omega arith), r .first .at (j + 1) (omega arith))
 
   -- by them the ports are enough exactly where they hold
   pub enough-holds : (b : Bool) → b ≡ enough ks sent received → b ≡ portsHold 1 ks (take n cs)

@@ -1,11 +1,10 @@
 -- Circuits counted by node in an array. Assumes nothing. Serves proofs inside only.
-use Prim.Native.Nat.{ℕ, _+_, _<_, _≤_}
-use mathlib.Core.Path.{_≡_}
+use Prim.Native.Nat.{ℕ, _+_}
 use mathlib.Core.Bool.{Bool, _&&_}
 use mathlib.Core.List.{List}
 use lib.Dec.{leb}
-use lib.ListN.{length, getD, take}
-use Rattle.basis.specs.Count.{tally}
+use lib.ListN.{getD, take}
+use Rattle.basis.specs.Tallied.{Tallied as KeyTallied}
 use Rattle.basis.specs.Search.{everyBelow}
 use Rattle.limits.specs.Limits.{mostNodes}
 use Rattle.lightpath.specs.declared.Circuit.{Circuit}
@@ -14,11 +13,9 @@ use Rattle.lightpath.specs.declared.Circuit.{Circuit}
 abbrev pub byteValues : ℕ
 byteValues = 256
 
--- the array has at k how many of the first n circuits have the key k
+-- the first n circuits of an array are counted by key
 pub record Tallied (key : Circuit → ℕ) (cs : List Circuit) (n : ℕ) (counts : List ℕ) : Type 0 where
-  pub at : (k : ℕ) → k < byteValues → getD counts k 0 ≡ tally key k (take n cs)
-  pub low : (k : ℕ) → k < byteValues → getD counts k 0 ≤ n
-  pub long : length counts ≡ byteValues
+  pub first : KeyTallied key (take n cs) byteValues counts
 
 -- by two such arrays, node j + 1 has ports enough for what it sends and what it receives
 abbrev pub enoughAt : List ℕ → List ℕ → List ℕ → ℕ → Bool

@@ -18,7 +18,7 @@ use Rattle.ring.specs.declared.Answered.{Answered}
 use Rattle.form.specs.Form.{formOf, longestForm}
 use Rattle.form.specs.Reading.{readOf}
 use Rattle.form.proofs.Length.{form-most}
-use Rattle.form.proofs.Laws.{read-meets}
+use Rattle.form.proofs.Laws.{accepted-meets}
 use Rattle.encode.specs.declared.Written.{Written}
 use Rattle.encode.specs.declared.Written.the-variants.{Length, Refused}
 use Rattle.encode.specs.Answer.{writtenOf, bytesAfter}
@@ -101,4 +101,4 @@ pub ruleset forms = (no-bytes, some-bytes, word-within, file-within, form-in, fo
 
 -- a form that is accepted gives a table that meets the ring rules
 pub accepted : (form : List ℕ) (a : Answered) → a ≡ readOf form → a .verdict ≡ granted → KeepsRules (deskWith (a .table))
-accepted form a e g = λ h. rw e (read-meets form (rw e at g))
+accepted form a e g = λ h. accepted-meets form a e g

@@ -1,4 +1,4 @@
-//! Prints a long script made from a seed, or what such a script reaches.
+//! Prints a long script made from a seed, what such a script reaches, or the form of a ring with circuits.
 
 use std::io::{self, Write};
 use std::process::ExitCode;
@@ -7,11 +7,16 @@ use ring::arguments::Arguments;
 use ring::comparison::Expected;
 use ring::generator::{self, Kind};
 use ring::program::Program;
+use ring::table::{NODES_LEAST, NODES_MOST, RING_PORTS_MOST};
 
 const USAGE: &str = "usage: generate --seed S --lines N [--kind KIND] [--plan] [--stats]
-  --kind    small, large, mixed (if not given), light or forms
-  --plan    lines of every kind that the planning program takes
-  --stats   print how often each step and refusal comes, in place of the script";
+  --kind      small, large, mixed (if not given), light or forms
+  --plan      lines of every kind that the planning program takes
+  --stats     print how often each step and refusal comes, in place of the script
+       generate --form --seed S --nodes N --circuits C
+  --form      the saved form of a ring, in place of a script
+  --nodes     the nodes of the ring, 3 to 64
+  --circuits  the circuits opened on it, 1 to 192";
 
 fn main() -> ExitCode {
     match run() {
@@ -24,7 +29,14 @@ fn main() -> ExitCode {
 }
 
 fn run() -> Result<(), String> {
-    let words = std::env::args().skip(1);
+    let words: Vec<String> = std::env::args().skip(1).collect();
+    let output =
+        if words.iter().any(|word| word == "--form") { form(words)? } else { script(words)? };
+    io::stdout().write_all(&output).map_err(|error| error.to_string())
+}
+
+/// A script, or what it reaches.
+fn script(words: Vec<String>) -> Result<Vec<u8>, String> {
     let arguments =
         Arguments::read(words, &["--seed", "--lines", "--kind"], &["--plan", "--stats"])?;
     let seed = arguments.needed_number("--seed")?;
@@ -32,10 +44,20 @@ fn run() -> Result<(), String> {
     let name = arguments.text("--kind").unwrap_or("mixed");
     let kind = Kind::named(name).ok_or(format!("{name} is not a kind"))?;
     let program = if arguments.has("--plan") { Program::Plan } else { Program::Script };
-    let mut text = generator::script(program, kind, seed, lines);
-    if arguments.has("--stats") {
-        let coverage = Expected::of(program, &text).coverage;
-        text = format!("{:>10}  lines\n{coverage}", coverage.lines).into_bytes();
+    let script = generator::script(program, kind, seed, lines);
+    if !arguments.has("--stats") {
+        return Ok(script);
     }
-    io::stdout().write_all(&text).map_err(|error| error.to_string())
+    let coverage = Expected::of(program, &script).coverage;
+    Ok(format!("{:>10}  lines\n{coverage}", coverage.lines).into_bytes())
+}
+
+/// The saved form of a ring with circuits.
+fn form(words: Vec<String>) -> Result<Vec<u8>, String> {
+    let arguments = Arguments::read(words, &["--seed", "--nodes", "--circuits"], &["--form"])?;
+    let seed = arguments.needed_number("--seed")?;
+    let nodes_limits = u64::from(NODES_LEAST)..=u64::from(NODES_MOST);
+    let nodes = arguments.needed_number_within("--nodes", nodes_limits)?;
+    let circuits = arguments.needed_number_within("--circuits", 1..=u64::from(RING_PORTS_MOST))?;
+    Ok(generator::form(nodes as u8, circuits as usize, seed))
 }

@@ -77,6 +77,16 @@ pub enum Event {
     WrittenAfterMove,
     WriteFailed,
     Load,
+    LoadOfNone,
+    /// The report of a ring of 64 nodes.
+    LoadOfLargestRing,
+    LoadOfPair,
+    /// Lightpaths of this direction run over link N.
+    LoadOverLastLink(Direction),
+    /// At some node a lightpath of this direction begins and another ends.
+    LoadBeginsAndEnds(Direction),
+    /// The load of this direction falls from some link to the one after it in the report.
+    LoadFalls(Direction),
     LinkCircuit,
     LinkOfPair,
     LinkNone,
@@ -153,7 +163,7 @@ pub const SCRIPT_EVENTS: [Event; 47] = [
 ];
 
 /// Every event that the other lines of the planning program can show, but those on frequency plans.
-pub const PLAN_EVENTS: [Event; 73] = [
+pub const PLAN_EVENTS: [Event; 82] = [
     Read,
     ReadBeforeRing,
     ReadReplaced,
@@ -206,6 +216,15 @@ pub const PLAN_EVENTS: [Event; 73] = [
     WrittenAfterMove,
     WriteFailed,
     Load,
+    LoadOfNone,
+    LoadOfLargestRing,
+    LoadOfPair,
+    LoadOverLastLink(Clockwise),
+    LoadOverLastLink(Counterclockwise),
+    LoadBeginsAndEnds(Clockwise),
+    LoadBeginsAndEnds(Counterclockwise),
+    LoadFalls(Clockwise),
+    LoadFalls(Counterclockwise),
     LinkCircuit,
     LinkOfPair,
     LinkNone,
@@ -296,6 +315,26 @@ impl fmt::Display for Event {
             WrittenAfterMove => "  of these: a circuit with an account was moved before",
             WriteFailed => "write failed",
             Load => "load",
+            LoadOfNone => "  of these: no circuits",
+            LoadOfLargestRing => "  of these: 64 nodes",
+            LoadOfPair => "  of these: two circuits at a place",
+            LoadOverLastLink(way) => {
+                return write!(f, "  of these: lightpaths {} over link N", word(*way))
+            }
+            LoadBeginsAndEnds(way) => {
+                return write!(
+                    f,
+                    "  of these: a lightpath {} begins where another ends",
+                    word(*way)
+                )
+            }
+            LoadFalls(way) => {
+                return write!(
+                    f,
+                    "  of these: the load {} falls from a link to the next",
+                    word(*way)
+                )
+            }
             LinkCircuit => "link circuit",
             LinkOfPair => "  of these: one of two at the place",
             LinkNone => "link none",

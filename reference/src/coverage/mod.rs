@@ -2,6 +2,7 @@
 
 mod event;
 mod grid;
+mod load;
 mod plan;
 mod script;
 

@@ -53,7 +53,7 @@ impl Coverage {
                 self.saw_accounts_shown(table, WrittenWithAccount, WrittenAfterMove);
             }
             (Answer::WriteFailed, _) => self.saw(WriteFailed),
-            (Answer::Load(_), _) => self.saw(Load),
+            (Answer::Load(loads), Some(table)) => self.saw_load(table, loads),
             (Answer::Link(_) | Answer::LinkRefused(_), Some(table)) => {
                 self.saw_link(line, answer, table);
             }

@@ -1,12 +1,13 @@
 //! The longest forms: every node and place, every port in use, each circuit with its optional fields.
 
 use super::plan_lines::read;
+use super::rings::even;
 use super::traffic::free_number;
 use crate::circuit::{can_share, Circuit};
 use crate::form::form_of;
 use crate::place::Place;
 use crate::random::Random;
-use crate::table::{Table, NODES_MOST, PLACES, RING_PORTS_MOST};
+use crate::table::{Table, NODES_MOST, PLACES};
 
 /// How many forms a script goes through before the first comes again.
 const FORMS: usize = 48;
@@ -36,11 +37,11 @@ impl Longest {
 /// shares with the one of a second tour that goes on from its destination; those of a third tour
 /// stand alone.
 fn full_table(random: &mut Random) -> Table {
-    let ports = [RING_PORTS_MOST as u8 / NODES_MOST; NODES_MOST as usize];
+    let ports = even(usize::from(NODES_MOST));
     let mut table = Table::make(NODES_MOST, &ports).expect("the ports are those of a ring");
     let mut unlit: Vec<Place> = (0..PLACES as u8).map(Place).collect();
     random.shuffle(&mut unlit);
-    let [first, second, third] = [(); 3].map(|()| tour(random));
+    let [first, second, third] = [(); 3].map(|()| tour(NODES_MOST, random));
     for a in first {
         let b = circuit_from(a.destination, &second);
         let fits = |place: &Place| can_share(NODES_MOST, place.direction(), a, b);
@@ -54,9 +55,10 @@ fn full_table(random: &mut Random) -> Table {
     table
 }
 
-/// A circuit from each node to the next one of a round through all nodes in any order.
-fn tour(random: &mut Random) -> Vec<Circuit> {
-    let mut nodes: Vec<u8> = (1..=NODES_MOST).collect();
+/// A circuit from each of the nodes up to the last to the next one of a round through them in any
+/// order.
+pub fn tour(last: u8, random: &mut Random) -> Vec<Circuit> {
+    let mut nodes: Vec<u8> = (1..=last).collect();
     random.shuffle(&mut nodes);
     let next = nodes.iter().cycle().skip(1);
     let circuit = |(&source, &destination)| Circuit { source, destination, ..Circuit::default() };
@@ -68,7 +70,7 @@ fn circuit_from(node: u8, tour: &[Circuit]) -> Circuit {
 }
 
 /// The circuit with a number that is not live, a remark and an account.
-fn filled(circuit: Circuit, table: &Table, random: &mut Random) -> Circuit {
+pub fn filled(circuit: Circuit, table: &Table, random: &mut Random) -> Circuit {
     Circuit {
         number: free_number(table, random),
         remark: random.between(1, usize::from(u16::MAX)) as u16,

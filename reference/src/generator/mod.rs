@@ -5,12 +5,14 @@ mod bad_lines;
 mod forms;
 mod grid_lines;
 mod longest;
+mod opened;
 mod plan_lines;
 mod rings;
 mod tables;
 mod traffic;
 
 use crate::circuit::Circuit;
+use crate::form::form_of;
 use crate::plan::{Answer, Planner};
 use crate::program::Program;
 use crate::random::Random;
@@ -18,6 +20,7 @@ use crate::script::{Request, LINE_MOST};
 use crate::table::Table;
 
 use longest::Longest;
+use opened::opened;
 use rings::Shape;
 use traffic::Tide;
 
@@ -80,6 +83,11 @@ pub fn script(program: Program, kind: Kind, seed: u64, lines: u64) -> Vec<u8> {
         script.pop();
     }
     script
+}
+
+/// The saved form of a ring of 3 to 64 nodes with so many circuits, at most 192.
+pub fn form(nodes: u8, circuits: usize, seed: u64) -> Vec<u8> {
+    form_of(&opened(nodes, circuits, &mut Random::new(seed)))
 }
 
 pub struct Generator {

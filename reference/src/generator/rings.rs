@@ -80,13 +80,20 @@ fn large(random: &mut Random) -> Vec<u8> {
     let nodes = usize::from(NODES_MOST);
     let ring_ports = RING_PORTS_MOST as usize;
     match random.below(3) {
-        0 => vec![3; nodes],
+        0 => even(nodes),
         1 => scattered(nodes, nodes, ring_ports, random),
         _ => {
             let hubs = random.between(3, nodes);
             scattered(nodes, hubs, ring_ports, random)
         }
     }
+}
+
+/// The most ports that a ring may have, spread evenly; those left over are at the first nodes.
+pub fn even(nodes: usize) -> Vec<u8> {
+    let ring_ports = RING_PORTS_MOST as usize;
+    let (each, left_over) = (ring_ports / nodes, ring_ports % nodes);
+    (0..nodes).map(|node| (each + usize::from(node < left_over)) as u8).collect()
 }
 
 /// The ring's ports thrown one by one on nodes of which only so many take any.

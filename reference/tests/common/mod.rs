@@ -4,9 +4,9 @@
 use ring::circuit::Circuit;
 use ring::generator::{Generator, Kind};
 use ring::opening::{Move, Opening};
+use ring::plan::Planner;
 use ring::program::Program;
 use ring::refusal::Refusal;
-use ring::script::Desk;
 use ring::table::{Channel, Table};
 
 pub fn circuit(number: u32, source: u8, destination: u8) -> Circuit {
@@ -90,13 +90,23 @@ pub fn open(table: &mut Table, circuit: Circuit) -> Result<Opening, Refusal> {
 
 /// Tables as generated scripts leave them, one of every `step` lines.
 pub fn tables(kind: Kind, seed: u64, lines: usize, step: usize) -> Vec<Table> {
-    let mut generator = Generator::new(Program::Script, kind, seed);
-    let mut desk = Desk::new();
+    tables_of(Program::Script, kind, seed, lines, step)
+}
+
+/// Tables as the planning program's lines leave them, which read forms with circuits wherever they
+/// may stand.
+pub fn plan_tables(kind: Kind, seed: u64, lines: usize, step: usize) -> Vec<Table> {
+    tables_of(Program::Plan, kind, seed, lines, step)
+}
+
+fn tables_of(program: Program, kind: Kind, seed: u64, lines: usize, step: usize) -> Vec<Table> {
+    let mut generator = Generator::new(program, kind, seed);
+    let mut planner = Planner::new();
     let mut tables = Vec::new();
     for line in 0..lines {
-        desk.run_line(&generator.next_line());
+        planner.run_line(&generator.next_line());
         if line % step == 0 {
-            tables.extend(desk.table().cloned());
+            tables.extend(planner.table().cloned());
         }
     }
     tables

@@ -25,14 +25,20 @@ running-requires c κs = search needs
 enum-told-3 : tie.Need-enum-told-3
 enum-told-3 c = search needs
 
-load-requires : tie.Need-load-requires
-load-requires c κs = search needs
+load-at-requires : tie.Need-load-at-requires
+load-at-requires c κs = search needs
+
+cast-result-2 : tie.Need-cast-result-2
+cast-result-2 c = search needs
 
 enum-told-4 : tie.Need-enum-told-4
 enum-told-4 c = search needs
 
-load-requires-2 : tie.Need-load-requires-2
-load-requires-2 c κs = search needs
+load-at-requires-2 : tie.Need-load-at-requires-2
+load-at-requires-2 c κs = search needs
+
+cast-result-3 : tie.Need-cast-result-3
+cast-result-3 c = search needs
 
 enum-told-5 : tie.Need-enum-told-5
 enum-told-5 c = search needs
@@ -84,9 +90,11 @@ number-at-spec =
     enum-known-row
     running-requires
     enum-told-3
-    load-requires
+    load-at-requires
+    cast-result-2
     enum-told-4
-    load-requires-2
+    load-at-requires-2
+    cast-result-3
     enum-told-5
     enum-told-6
     free-requires

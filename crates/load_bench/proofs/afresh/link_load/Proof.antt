@@ -1,10 +1,10 @@
--- `load::link_load` meets its contract: the sum is that of the wavelengths below w. Assumes nothing.
+-- `load_bench::afresh::link_load` meets its contract: the sum is that of the wavelengths below w. Assumes nothing.
 use Prim.Native.Nat.{_-_}
 use Rattle.limits.specs.Limits.{mostWavelengths}
-use Rattle.load.proofs.Counted.{Counted, counting}
+use Rattle.load_bench.proofs.Counted.{Counted, counting}
 use borrow.Author.Needs.{needs}
-use Rattle.load.proofs.link_load.Statement.{statement}
-use Rattle.load.proofs.link_load.Tie as tie
+use Rattle.load_bench.proofs.afresh.link_load.Statement.{statement}
+use Rattle.load_bench.proofs.afresh.link_load.Tie as tie
 
 abbrev Inv-loop : tie.InvT-loop
 Inv-loop nodes channels direction link sum₀ w₀ sum w = Counted nodes channels direction link w sum

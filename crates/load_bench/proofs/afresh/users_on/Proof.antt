@@ -1,7 +1,7 @@
--- `load::users_on` meets its contract. Assumes nothing.
+-- `load_bench::afresh::users_on` meets its contract. Assumes nothing.
 use borrow.Author.Needs.{needs}
-use Rattle.load.proofs.users_on.Statement.{statement}
-use Rattle.load.proofs.users_on.Tie as tie
+use Rattle.load_bench.proofs.afresh.users_on.Statement.{statement}
+use Rattle.load_bench.proofs.afresh.users_on.Tie as tie
 
 place-requires : tie.Need-place-requires
 place-requires c κs = search needs

@@ -1,14 +1,18 @@
--- `load::fill` meets its contract: the loads of the links up to `link` are written. Assumes nothing.
+-- `load_bench::afresh::fill` meets its contract: the loads of the links up to `link` are written. Assumes nothing.
 use lib.ListN.{length-set}
 use Prim.Native.Nat.{_-_}
+use Rattle.lightpath.specs.declared.Direction.the-variants.{Clockwise as clockwise, Counterclockwise as counterclockwise}
+use Rattle.load.specs.Load.{linkLoad}
 use Rattle.load.proofs.Filled.{Filled, filling}
+use Rattle.load_bench.proofs.Counted.{loads-written}
 use borrow.Author.Needs.{needs}
 use native.Mathlib.Omega.{arith}
-use Rattle.load.proofs.fill.Statement.{statement}
-use Rattle.load.proofs.fill.Tie as tie
+use Rattle.load_bench.proofs.afresh.fill.Statement.{statement}
+use Rattle.load_bench.proofs.afresh.fill.Tie as tie
 
 abbrev Inv-loop : tie.InvT-loop
-Inv-loop nodes channels out₀ link₀ out link = Filled nodes channels out₀ link out
+Inv-loop nodes channels out₀ link₀ out link =
+    Filled (λ l. linkLoad nodes channels clockwise l) (λ l. linkLoad nodes channels counterclockwise l) nodes out₀ link out
 
 abbrev μ-loop : tie.MeasureT-loop
 μ-loop nodes channels out₀ link₀ out link = nodes - link
@@ -50,7 +54,7 @@ same-length : tie.Need-same-length Inv-loop μ-loop
 same-length c = search (needs, filling)
 
 returns : tie.Need-returns Inv-loop μ-loop
-returns c = search (needs, filling)
+returns c = search (needs, filling, loads-written)
 
 pub fill-spec : {M : Type 1} → statement M
 fill-spec =

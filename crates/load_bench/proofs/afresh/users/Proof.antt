@@ -1,9 +1,9 @@
--- `load::users` meets its contract. Assumes nothing.
+-- `load_bench::afresh::users` meets its contract. Assumes nothing.
 use Rattle.lightpath.specs.Circuit.{users}
-use Rattle.load.proofs.Counted.{counts}
+use Rattle.load_bench.proofs.Counted.{counts}
 use borrow.Author.Needs.{needs}
-use Rattle.load.proofs.users.Statement.{statement}
-use Rattle.load.proofs.users.Tie as tie
+use Rattle.load_bench.proofs.afresh.users.Statement.{statement}
+use Rattle.load_bench.proofs.afresh.users.Tie as tie
 
 enum-told : tie.Need-enum-told
 enum-told c = search needs

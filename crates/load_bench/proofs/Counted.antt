@@ -1,7 +1,8 @@
 -- How many lightpaths use a link, from the test of each: those of a place, then those of the wavelengths below a bound. Assumes nothing.
 use Prim.Native.Nat.{ℕ, _+_, _*_, _≤_, _<_}
 use mathlib.Core.Path.{_≡_, refl}
-use mathlib.Core.Bool.{Bool}
+use mathlib.Core.Bool.{Bool, true}
+use mathlib.Core.List.{List, _++_}
 use native.Mathlib.Numerals.{add-one}
 use native.Mathlib.Omega.{arith}
 use mir.Syntax.{w8}
@@ -9,7 +10,7 @@ use mir.Val.{boolByte, Fits}
 use Rattle.basis.specs.Choice.{bit}
 use Rattle.basis.proofs.Bools.{byte-bit}
 use Rattle.basis.proofs.Weigh.{weigh-append, bit-most}
-use Rattle.limits.specs.Limits.{mostWavelengths}
+use Rattle.limits.specs.Limits.{mostWavelengths, mostNodes}
 use Rattle.lightpath.specs.Place.{placeOf}
 use Rattle.lightpath.specs.Circuit.{uses, users}
 use Rattle.lightpath.specs.declared.Circuit.{Circuit}
@@ -19,7 +20,13 @@ use Rattle.slots.specs.declared.Slot.{Slot}
 use Rattle.slots.specs.declared.Slot.the-variants.{Alone as alone, Shared as shared}
 use Rattle.slots.proofs.Contents.{held-most}
 use Rattle.channels.specs.Channels.{Channels, at}
-use Rattle.load.specs.Load.{lightpathsBelow, linkLoad}
+use Rattle.lightpath.specs.declared.Direction.the-variants.{Clockwise as clockwise, Counterclockwise as counterclockwise}
+use Rattle.ring.specs.Table.{meetsRules}
+use Rattle.ring.specs.declared.RingTable.{RingTable}
+use Rattle.ring.proofs.TableRules.{few-nodes}
+use Rattle.load.specs.Walk.{pairsTo}
+use Rattle.load.proofs.Filled.{loads-pairs}
+use Rattle.load.specs.Load.{lightpathsBelow, linkLoad, loads}
 
 module _ (N : ℕ) (d : Direction) (l : ℕ) (s : Slot) where
   -- one circuit
@@ -74,3 +81,16 @@ module _ (N : ℕ) (t : Channels) (d : Direction) (l : ℕ) where
   count-end w n h i = let e : w ≡ mostWavelengths = omega arith in rw e at (h .number)
 
 pub ruleset counting = (count-start, count-fits, count-next, count-end)
+
+-- the loads of all links are written
+pub loads-written : (N : ℕ) (t : Channels) (after rest : List ℕ)
+    → after ≡ pairsTo N (λ l. linkLoad N t clockwise l) (λ l. linkLoad N t counterclockwise l) ++ rest → after ≡ loads N t ++ rest
+loads-written N t after rest e = rw (loads-pairs N N t) e
+
+-- the loads of a table are at most those of the largest ring
+pub loads-few : (t : RingTable) → meetsRules t ≡ true → 2 * t .nodes ≤ 2 * mostNodes
+loads-few t meets = omega (arith, few-nodes t meets)
+
+-- a buffer that has room for those has room for these
+pub loads-fit : (t : RingTable) (n m : ℕ) → meetsRules t ≡ true → n ≡ m → 2 * mostNodes ≤ m → 2 * t .nodes ≤ n
+loads-fit t n m meets e h = omega (arith, loads-few t meets)

@@ -1,0 +1,2 @@
+-- The laws of the loads counted afresh.
+pub mod Counted
