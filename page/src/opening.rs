@@ -1,8 +1,9 @@
 //! An opening in words: where the new circuit went, and why others moved.
 
+use crate::pair::{links_in_words, meeting, Pair};
 use crate::step::{Move, Step};
 use crate::table::{Circuit, Table};
-use crate::words::{capital, count, listed, ordinal, spelled, Telling};
+use crate::words::{capital, listed, ordinal, told_move, told_moves, Telling};
 
 pub fn tell(step: &Step, number: u32, moves: &[Move], looks: u32) -> Telling {
     let rings = step.before.as_deref().zip(step.after.as_deref());
@@ -17,7 +18,7 @@ pub fn tell(step: &Step, number: u32, moves: &[Move], looks: u32) -> Telling {
         };
     }
     match put_together(before, after)[..] {
-        [(a, b)] => Rearranged { before, after, new, a, b, moves, looks }.tell(),
+        [(a, b)] => Rearranged { pair: Pair { before, after, a, b }, new, moves, looks }.tell(),
         _ => Telling {
             point: format!(
                 "Circuit {number} took place {} after {}.",
@@ -95,11 +96,8 @@ fn put_together<'a>(before: &Table, after: &'a Table) -> Vec<(&'a Circuit, &'a C
 
 /// An opening that moved others, with the two circuits that it put together.
 struct Rearranged<'a> {
-    before: &'a Table,
-    after: &'a Table,
+    pair: Pair<'a>,
     new: &'a Circuit,
-    a: &'a Circuit,
-    b: &'a Circuit,
     moves: &'a [Move],
     looks: u32,
 }
@@ -107,15 +105,15 @@ struct Rearranged<'a> {
 impl Rearranged<'_> {
     fn tell(&self) -> Telling {
         let mut reasons = Vec::new();
-        if self.before.lowest_free_place().is_none() {
+        if self.pair.before.lowest_free_place().is_none() {
             reasons.push(format!(
                 "No place was free: all {} had a circuit. Two circuits that stood alone had to \
                  share one place, so that one place became free.",
-                self.before.places()
+                self.pair.before.places()
             ));
         }
         reasons.push(self.found());
-        reasons.push(self.direction());
+        reasons.push(self.pair.direction());
         reasons.extend(self.room());
         reasons.push(self.pair_moved());
         reasons.push(self.placed());
@@ -127,14 +125,14 @@ impl Rearranged<'_> {
             [] => String::new(),
             ref others => format!(", {} made room", listed(others)),
         };
-        let full = match self.before.lowest_free_place() {
+        let full = match self.pair.before.lowest_free_place() {
             None => "No place was free: circuits ",
             Some(_) => "Circuits ",
         };
         format!(
             "{full}{} and {} were put together{room}, {}. Circuit {} is at place {}.",
-            self.a.number,
-            self.b.number,
+            self.pair.a.number,
+            self.pair.b.number,
             told_moves(self.moves),
             self.new.number,
             self.new.place
@@ -143,12 +141,12 @@ impl Rearranged<'_> {
 
     /// The circuits that moved without being of the pair.
     fn made_room(&self) -> Vec<u32> {
-        let of_pair = |number| number == self.a.number || number == self.b.number;
+        let of_pair = |number| number == self.pair.a.number || number == self.pair.b.number;
         self.moves.iter().map(|made| made.number).filter(|&number| !of_pair(number)).collect()
     }
 
     fn found(&self) -> String {
-        let (a, b) = (self.a, self.b);
+        let (a, b) = (self.pair.a, self.pair.b);
         format!(
             "Pairs of the circuits that stood alone, {} among them, were looked at in order. The \
              {} pair, {} and {}, was the first in which one ends where the other begins: {}.",
@@ -160,69 +158,16 @@ impl Rearranged<'_> {
         )
     }
 
-    /// Why the pair shares the way round that it does.
-    fn direction(&self) -> String {
-        let stood = self.stood();
-        if self.there_and_back() {
-            return format!("A pair that runs there and back can share either way round. {stood}");
-        }
-        let way = self.a.direction();
-        let clash = self.a.common_links(self.b, way.opposite(), self.after.nodes());
-        format!(
-            "{} both would need {}, so there they cannot share. {} they have no link in common. \
-             {stood}",
-            capital(way.opposite().word()),
-            links_in_words(&clash),
-            capital(way.word())
-        )
-    }
-
-    fn there_and_back(&self) -> bool {
-        there_and_back(self.a, self.b)
-    }
-
-    /// Which way the old members of the pair stood, and so who had to move.
-    fn stood(&self) -> String {
-        let way = self.a.direction();
-        let fro = way.opposite().word();
-        let right = if self.there_and_back() { "where they fit" } else { way.word() };
-        let old = [self.a, self.b].into_iter().filter_map(|new| self.before.find(new.number));
-        let (fitting, other): (Vec<&Circuit>, Vec<&Circuit>) =
-            old.partition(|circuit| self.there_and_back() || circuit.direction() == way);
-        match (&fitting[..], &other[..]) {
-            ([a, b], _) => {
-                let (low, high) = (a.place.min(b.place), a.place.max(b.place));
-                let kept = if self.a.place == low { "lower" } else { "higher" };
-                format!(
-                    "Both stood {right} already (places {low} and {high}), so only one had to \
-                     move: the {kept} place stayed."
-                )
-            }
-            ([a], _) => format!(
-                "{} stood {right} already (place {}), so only the other had to move.",
-                a.number, a.place
-            ),
-            (_, [a, b]) => format!(
-                "But both stood {fro} (places {} and {}), so both had to move.",
-                a.place, b.place
-            ),
-            (_, [a]) => {
-                format!("But {} stood {fro} (place {}), so it had to move.", a.number, a.place)
-            }
-            _ => String::new(),
-        }
-    }
-
     /// How the circuits that are not of the pair made room for it.
     fn room(&self) -> Vec<String> {
         let rooms = self.made_room();
         let told = self.moves.iter().filter(|made| rooms.contains(&made.number));
         told.map(|made| {
-            let left = match self.before.at(made.to).next() {
+            let left = match self.pair.before.at(made.to).next() {
                 Some(owner) => format!(", which {} left", owner.number),
                 None => String::new(),
             };
-            let way = self.a.direction().word();
+            let way = self.pair.a.direction().word();
             format!(
                 "{} stood alone at place {}, which runs {way}. It made room there: it moved to \
                  place {}{left}.",
@@ -244,49 +189,13 @@ impl Rearranged<'_> {
         let moves = capital(&told_moves(self.moves));
         let numbers: Vec<u32> = self.moves.iter().map(|made| made.number).collect();
         let numbers = listed(&numbers);
-        let at = match self.after.partner(new) {
+        let at = match self.pair.after.partner(new) {
             Some(partner) => format!("joined {} at place {}", partner.number, new.place),
-            None => match self.before.at(new.place).next() {
+            None => match self.pair.before.at(new.place).next() {
                 Some(owner) => format!("took place {}, which {} left", new.place, owner.number),
                 None => format!("took place {}", new.place),
             },
         };
         format!("{} {at}. {moves} in all: {numbers}.", new.number)
     }
-}
-
-/// Where one of two circuits ends and the other begins.
-fn meeting(a: &Circuit, b: &Circuit) -> String {
-    if there_and_back(a, b) {
-        return format!(
-            "{} and {} run there and back between nodes {} and {}",
-            a.number, b.number, a.source, a.destination
-        );
-    }
-    let (ends, begins) = if a.destination == b.source { (a, b) } else { (b, a) };
-    format!("{} ends at node {}, where {} begins", ends.number, begins.source, begins.number)
-}
-
-/// Whether each of two circuits begins where the other ends.
-fn there_and_back(a: &Circuit, b: &Circuit) -> bool {
-    a.destination == b.source && b.destination == a.source
-}
-
-fn links_in_words(links: &[u8]) -> String {
-    let mut links = links.to_vec();
-    links.sort_unstable();
-    match links.len() {
-        1 => format!("link {}", links[0]),
-        2..=6 => format!("links {}", listed(&links)),
-        many => count(many, "link"),
-    }
-}
-
-fn told_moves(moves: &[Move]) -> String {
-    let noun = if moves.len() == 1 { "move" } else { "moves" };
-    format!("{} {noun}", spelled(moves.len()))
-}
-
-fn told_move(made: &Move) -> String {
-    format!("{} moved from place {} to place {}", made.number, made.from, made.to)
 }

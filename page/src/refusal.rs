@@ -29,6 +29,10 @@ pub fn tell_line(step: &Step) -> Telling {
              remark and its account. A remark or account of 0 is none.",
             "Correct the line.",
         ),
+        Some(_) if first == "tidy" => (
+            "Tidying takes the whole ring as it is: nothing stands after the word, not even a space.",
+            "Correct the line.",
+        ),
         _ => (
             "It may have a misspelt word, two spaces, a word too many or too few, a sign, point or \
              comma that may not stand there, a number too wide for its field, or too many bytes.",

@@ -27,6 +27,11 @@ pub enum Outcome {
     Closed {
         number: u32,
     },
+    /// Circuits that stood apart were joined, two in each round.
+    Tidied {
+        rounds: usize,
+        moves: Vec<Move>,
+    },
     Refused {
         number: u32,
     },
@@ -80,7 +85,9 @@ impl Step {
     /// The ring before, if the step changed what stands on that very ring.
     fn changed(&self) -> Option<&Table> {
         match self.outcome {
-            Outcome::Opened { .. } | Outcome::Closed { .. } => self.before.as_deref(),
+            Outcome::Opened { .. } | Outcome::Closed { .. } | Outcome::Tidied { .. } => {
+                self.before.as_deref()
+            }
             _ => None,
         }
     }
@@ -105,7 +112,7 @@ impl Step {
 
     pub fn moves(&self) -> &[Move] {
         match &self.outcome {
-            Outcome::Opened { moves, .. } => moves,
+            Outcome::Opened { moves, .. } | Outcome::Tidied { moves, .. } => moves,
             _ => &[],
         }
     }
@@ -116,21 +123,29 @@ pub fn outcome_of(answer: &[String]) -> Option<Outcome> {
     let words: Vec<&str> = answer.first()?.split(' ').collect();
     Some(match words[..] {
         ["line", "refused"] => Outcome::LineRefused,
-        ["ring" | "close" | "read" | "link" | "frequency" | "wavelength", "refused", refusal]
+        ["ring" | "close" | "tidy" | "read" | "link" | "frequency" | "wavelength", "refused", refusal]
         | ["open", _, "refused", refusal] => Outcome::Refused { number: refusal.parse().ok()? },
         ["ring", _, "wavelengths", _] => Outcome::Ring,
         ["read", _, "wavelengths", _] => Outcome::Read,
         ["open", number, "place", _, "moves", _, "looks", looks] => Outcome::Opened {
             number: number.parse().ok()?,
-            moves: answer.iter().skip(1).map(|line| move_of(line)).collect::<Option<_>>()?,
+            moves: moves_of(answer)?,
             looks: looks.parse().ok()?,
         },
         ["close", number] => Outcome::Closed { number: number.parse().ok()? },
+        ["tidy", "rounds", rounds, "moves", _] => {
+            Outcome::Tidied { rounds: rounds.parse().ok()?, moves: moves_of(answer)? }
+        }
         ["read" | "write", "failed"] => Outcome::Failed,
         ["frequency", count] => Outcome::Frequency { count: count.parse().ok()? },
         ["wavelength", number] => Outcome::Wavelength { number: number.parse().ok()? },
         _ => Outcome::Told,
     })
+}
+
+/// The moves of an answer, which stand after its first line.
+fn moves_of(answer: &[String]) -> Option<Vec<Move>> {
+    answer.iter().skip(1).map(|line| move_of(line)).collect()
 }
 
 /// A line `move NUMBER from PLACE to PLACE`.
@@ -164,15 +179,22 @@ mod tests {
         assert_eq!(outcome("link none"), Some(Outcome::Told));
         assert_eq!(outcome("frequency 1929500"), Some(Outcome::Frequency { count: 1_929_500 }));
         assert_eq!(outcome("wavelength 63"), Some(Outcome::Wavelength { number: 63 }));
-        for line in ["ring", "open 3", "close", "read", "link", "frequency", "wavelength"] {
+        for line in ["ring", "open 3", "close", "tidy", "read", "link", "frequency", "wavelength"] {
             let refused = outcome(&format!("{line} refused 16"));
             assert_eq!(refused, Some(Outcome::Refused { number: 16 }), "{line}");
         }
         let opened = outcome("open 15 place 2 moves 1 looks 2\nmove 12 from 1 to 0");
         let moves = vec![Move { number: 12, from: 1, to: 0 }];
         assert_eq!(opened, Some(Outcome::Opened { number: 15, moves, looks: 2 }));
+        let tidied = outcome("tidy rounds 1 moves 2\nmove 7 from 1 to 4\nmove 9 from 3 to 4");
+        let moves = [(7, 1), (9, 3)].map(|(number, from)| Move { number, from, to: 4 }).into();
+        assert_eq!(tidied, Some(Outcome::Tidied { rounds: 1, moves }));
+        let none = Outcome::Tidied { rounds: 0, moves: Vec::new() };
+        assert_eq!(outcome("tidy rounds 0 moves 0"), Some(none));
         assert_eq!(outcome(""), None);
         assert_eq!(outcome("open 15 place 2 moves 1 looks 2\nmove 12"), None);
+        assert_eq!(outcome("tidy rounds 1 moves 1\nmove 12"), None);
+        assert_eq!(outcome("tidy rounds none moves 0"), None);
         assert_eq!(outcome("frequency 192.95"), None);
         assert_eq!(outcome("wavelength none"), None);
     }
@@ -200,11 +222,17 @@ mod tests {
 
     #[test]
     fn the_rings_before_and_after_tell_what_is_new_moved_and_left() {
-        let step = step(Outcome::Opened { number: 3, moves: Vec::new(), looks: 0 });
-        let after = step.after.clone().unwrap();
-        assert_eq!(step.mark(&after.circuits[0]), Mark::Moved(2));
-        assert_eq!(step.mark(&after.circuits[1]), Mark::New);
-        assert_eq!(step.left().iter().map(|c| c.number).collect::<Vec<_>>(), [1, 2]);
+        for outcome in [
+            Outcome::Opened { number: 3, moves: Vec::new(), looks: 0 },
+            Outcome::Closed { number: 1 },
+            Outcome::Tidied { rounds: 1, moves: Vec::new() },
+        ] {
+            let step = step(outcome);
+            let after = step.after.clone().unwrap();
+            assert_eq!(step.mark(&after.circuits[0]), Mark::Moved(2));
+            assert_eq!(step.mark(&after.circuits[1]), Mark::New);
+            assert_eq!(step.left().iter().map(|c| c.number).collect::<Vec<_>>(), [1, 2]);
+        }
     }
 
     #[test]

@@ -3,8 +3,9 @@
 
 use crate::opening;
 use crate::refusal;
-use crate::step::{Outcome, Step};
+use crate::step::{Move, Outcome, Step};
 use crate::table::Table;
+use crate::tidying;
 
 /// A step told: the main point, the reasons one by one, and what a desk does next if it must.
 #[derive(PartialEq, Eq, Debug, Default)]
@@ -46,6 +47,7 @@ pub fn tell(step: &Step) -> Telling {
             next: None,
         }),
         Outcome::Closed { number } => tell_closing(step, *number),
+        Outcome::Tidied { rounds, moves } => tidying::tell(step, *rounds, moves),
         Outcome::Frequency { count } => tell_answer(format!(
             "By this plan the wavelength has the frequency {}, both ways round.",
             frequency(*count)
@@ -69,6 +71,7 @@ fn told(answer: &str) -> String {
         ["link", "none"] => "No circuit runs there.".into(),
         ["load", ..] => "The loads of all links were asked for.".into(),
         ["circuits", ..] => "The running circuits were asked for.".into(),
+        ["ring", "of", ..] => "A picture of the ring was asked for.".into(),
         ["write", ..] => "The ring was saved.".into(),
         _ => "A question was answered.".into(),
     }
@@ -123,6 +126,16 @@ pub fn count(number: usize, noun: &str) -> String {
         1 => format!("1 {noun}"),
         _ => format!("{number} {noun}s"),
     }
+}
+
+/// How many moves there were: `three moves`.
+pub fn told_moves(moves: &[Move]) -> String {
+    let noun = if moves.len() == 1 { "move" } else { "moves" };
+    format!("{} {noun}", spelled(moves.len()))
+}
+
+pub fn told_move(made: &Move) -> String {
+    format!("{} moved from place {} to place {}", made.number, made.from, made.to)
 }
 
 /// A count of 100 MHz, and the same in THz: `1929500 (192.95 THz)`.

@@ -6,7 +6,8 @@ use std::rc::Rc;
 
 use common::links::{answered, arcs, cells, Links};
 use common::rings::{
-    answers, largest, opening_107, still, table, Answers, Row, AFTER_107, FILLED, FILLING_PORTS,
+    answers, largest, opening_107, still, table, tidying, Answers, Row, AFTER_107, FILLED,
+    FILLING_PORTS,
 };
 use common::xml::parse;
 use ringpage::drawing::View;
@@ -111,25 +112,46 @@ fn all_coordinates_are_within_the_drawing() {
     }
 }
 
+/// How many elements of a drawing have a class.
+fn classes(drawing: &str, class: &str) -> usize {
+    let of_class = |e: &&common::xml::Element| e.attribute("class").split(' ').any(|c| c == class);
+    parse(drawing).unwrap().iter().filter(of_class).count()
+}
+
+/// The circuits of a chart's runs whose class ends so.
+fn numbers(chart: &str, class: &str) -> Vec<u32> {
+    let elements = parse(chart).unwrap();
+    let of_class = elements.iter().filter(|e| e.attribute("class").ends_with(class));
+    of_class.map(|e| e.attribute("data-circuit").parse().unwrap()).collect()
+}
+
 #[test]
 fn new_moved_and_old_places_are_marked() {
     let (ring, chart) = drawn(&opening_107());
-    let classes = |drawing: &str, class: &str| {
-        let of_class =
-            |e: &&common::xml::Element| e.attribute("class").split(' ').any(|c| c == class);
-        parse(drawing).unwrap().iter().filter(of_class).count()
-    };
     assert_eq!(["new", "moved", "ghost"].map(|class| classes(&ring, class)), [1, 3, 3]);
-    let numbers = |class: &str| -> Vec<u32> {
-        let elements = parse(&chart).unwrap();
-        let of_class = elements.iter().filter(|e| e.attribute("class").ends_with(class));
-        of_class.map(|e| e.attribute("data-circuit").parse().unwrap()).collect()
-    };
-    assert_eq!(numbers(" new"), [107]);
-    assert_eq!(numbers(" moved"), [102, 102, 101, 101, 105]);
+    assert_eq!(numbers(&chart, " new"), [107]);
+    assert_eq!(numbers(&chart, " moved"), [102, 102, 101, 101, 105]);
     for text in ["107 new", "101 moved", "105 was here"] {
         assert!(ring.contains(&format!(">{text}</text>")), "{text}");
     }
+}
+
+#[test]
+fn a_tidying_is_drawn_before_and_after_with_each_move_marked() {
+    let step = tidying();
+    let (ring, after) = drawn(&step);
+    assert_eq!(["new", "moved", "ghost"].map(|class| classes(&ring, class)), [0, 5, 5]);
+    for text in ["209 moved", "209 was here", "205 moved", "205 was here"] {
+        assert!(ring.contains(&format!(">{text}</text>")), "{text}");
+    }
+    let before = chart::draw(View::before_moves(&step).expect("the ring before")).sized();
+    assert_eq!(numbers(&before, " leaving"), [201, 201, 203, 203, 205, 205, 209, 210, 210]);
+    assert_eq!(numbers(&after, " moved"), [209, 210, 210, 203, 201, 205]);
+    assert!(before.contains(">205: 8\u{2192}6 (moves to 7)</text>"));
+    assert!(
+        after.contains(">201: 6\u{2192}2 (moved from 0) + 205: 8\u{2192}6 (moved from 4)</text>")
+    );
+    assert_eq!(after.matches(">free</text>").count(), 4);
 }
 
 #[test]

@@ -12,6 +12,7 @@ use common::xml::{parse, Element};
 use ringpage::day::{self, Choice, Day};
 use ringpage::drawing::View;
 use ringpage::picture::picture;
+use ringpage::step::Outcome;
 use ringpage::words::tell;
 use ringpage::{chart, page, ring, ringplan};
 
@@ -29,10 +30,11 @@ fn run(script: &[u8], steps: Choice) -> Day {
 }
 
 fn example(name: &str) -> Vec<u8> {
-    fs::read(top().join(format!("examples/{name}.script"))).expect("an example")
+    fs::read(top().join("examples").join(name)).expect("an example")
 }
 
-const EXAMPLES: [&str; 4] = ["01", "dimensions", "filling", "refusals"];
+const EXAMPLES: [&str; 5] =
+    ["01.script", "dimensions.script", "filling.script", "refusals.script", "tidying.plan"];
 
 /// Elements of HTML that have no inside; all others have a beginning and an end.
 const VOID: [&str; 2] = ["meta", "input"];
@@ -149,14 +151,102 @@ fn frequencies_are_told_before_and_after_a_ring() {
 }
 
 #[test]
-fn every_line_of_the_lasers_is_explained() {
-    let script = fs::read(top().join("examples/lasers.plan")).expect("an example");
-    let day = run(&script, Some((1, usize::MAX)));
-    assert_good(&page::page("lasers", &day));
-    for step in day.steps {
-        let point = tell(&step).point;
-        let fallback = point.contains("A question was answered") || point.contains("refused by");
-        assert!(!fallback, "{}: {point}", step.request);
+fn every_line_of_the_planners_examples_is_explained() {
+    for name in ["lasers.plan", "tidying.plan"] {
+        let day = run(&example(name), Some((1, usize::MAX)));
+        assert_good(&page::page(name, &day));
+        for step in day.steps {
+            let point = tell(&step).point;
+            let fallback =
+                point.contains("A question was answered") || point.contains("refused by");
+            assert!(!fallback, "{}: {point}", step.request);
+        }
+    }
+}
+
+/// Openings and closings in any order on a ring of eight nodes, tidied now and then.
+fn busy_months() -> String {
+    let mut state = 1_u32;
+    let mut any = |below: u32| {
+        state = state.wrapping_mul(1_664_525).wrapping_add(1_013_904_223);
+        (state >> 16) % below
+    };
+    let mut script = "ring 8 3 3 3 3 3 3 3 3\n".to_string();
+    for _ in 0..600 {
+        script += &match any(40) {
+            0 => "tidy\n".into(),
+            1..=15 => format!("close {}\n", any(50)),
+            _ => format!("open {} {} {} 0 0\n", any(50), any(8) + 1, any(8) + 1),
+        };
+    }
+    script
+}
+
+#[test]
+fn as_many_rounds_are_told_as_were_answered() {
+    let mut all = 0;
+    for step in run(busy_months().as_bytes(), Some((1, usize::MAX))).steps {
+        if let Outcome::Tidied { rounds, .. } = step.outcome {
+            let told = tell(&step).reasons;
+            let joined = told.iter().filter(|reason| reason.starts_with("Round ")).count();
+            assert_eq!(joined, rounds, "{:?}", step.answer);
+            all += rounds;
+        }
+    }
+    assert!(all > 10, "only {all} rounds");
+}
+
+/// The form of a ring of 64 nodes with a circuit alone at each of the 128 places: on wavelength w
+/// one clockwise from node w + 1 to the next, and its return counterclockwise.
+fn spread_out() -> String {
+    let circuit = |number: u8, from: u8, to: u8| format!("00000000{number:02x}{from:02x}{to:02x}");
+    let records = (0..64_u8).map(|wavelength| {
+        let (node, next) = (wavelength + 1, (wavelength + 1) % 64 + 1);
+        circuit(2 * wavelength, node, next) + &circuit(2 * wavelength + 1, next, node)
+    });
+    let ports = "03".repeat(64);
+    format!("40{ports}{}{}", "ff".repeat(16), records.collect::<String>())
+}
+
+#[test]
+fn a_tidying_of_64_rounds_is_told_round_by_round() {
+    let day = run(format!("read {}\ntidy\ntidy\n", spread_out()).as_bytes(), None);
+    let [_, tidied, again] = &day.steps[..] else { panic!("three steps") };
+    assert_eq!(tidied.answer[0], "tidy rounds 64 moves 64");
+    let told = tell(tidied);
+    assert_eq!(
+        told.point,
+        "The ring was tidied in 64 rounds with 64 moves: circuits ran at 128 places, and run at 64 \
+         now."
+    );
+    assert_eq!(told.reasons.len(), 65);
+    assert_eq!(
+        told.reasons[63],
+        "Round 64 joined 126 and 127 at place 126, wavelength 63 clockwise: 126 stayed, and 127 \
+         came to it from place 127."
+    );
+    assert!(told.reasons[64].ends_with("62 and 63 counterclockwise fell dark."));
+    assert_eq!(again.answer, ["tidy rounds 0 moves 0"]);
+    assert_good(&page::page("spread out", &day));
+}
+
+#[test]
+fn a_tidying_is_refused_as_a_line_without_a_ring_and_with_a_word_after_it() {
+    let steps = run(b"tidy\nring 3 1 1 1\ntidy 128\ntidy \nTidy\ntidy\n", None).steps;
+    let reasons: Vec<String> = steps.iter().map(|step| tell(step).reasons.join(" ")).collect();
+    for (index, expected) in [
+        (0, "No ring is lit yet, so only a line that lights or reads one,"),
+        (2, "Tidying takes the whole ring as it is: nothing stands after the word,"),
+        (3, "Tidying takes the whole ring as it is: nothing stands after the word,"),
+        (4, "It may have a misspelt word,"),
+        (5, "The ring has no circuits."),
+    ] {
+        assert!(
+            reasons[index].starts_with(expected),
+            "{}: {}",
+            steps[index].request,
+            reasons[index]
+        );
     }
 }
 

@@ -411,6 +411,10 @@ fn questions_change_nothing() {
         ("link none", "No circuit runs there. Nothing changed."),
         ("load 0 0 0 0 0 0", "The loads of all links were asked for. Nothing changed."),
         ("write 29 0301", "The ring was saved. Nothing changed."),
+        (
+            "ring of 3 nodes, 1 wavelengths each way, 0 circuits\nlink   from  1  2  3",
+            "A picture of the ring was asked for. Nothing changed.",
+        ),
         ("anything", "A question was answered. Nothing changed."),
     ] {
         assert_eq!(on_filling("..", answer, &[], &[]).point, expected);

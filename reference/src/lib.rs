@@ -19,3 +19,4 @@ pub mod refusal;
 pub mod report;
 pub mod script;
 pub mod table;
+pub mod tidying;

@@ -11,11 +11,13 @@ use crate::files;
 use crate::form::{self, form_of};
 use crate::grid::FrequencyPlan;
 use crate::lines::{for_each_line, number, signed_number, words};
+use crate::opening::Move;
 use crate::place::Wavelength;
 use crate::refusal::Refusal;
 use crate::report;
-use crate::script::{self, four_bytes, Desk, Request};
+use crate::script::{self, four_bytes, write_move, Desk, Request};
 use crate::table::{Lightpath, Table};
+use crate::tidying::RECORDS_LEAST;
 
 /// The longest line taken, without its line end; the script program's lines keep their own limit.
 pub const LINE_MOST: usize = 8192;
@@ -27,6 +29,7 @@ pub enum Command {
     Read(Source),
     Frequency { plan: FrequencyPlan, wavelength: u32 },
     Wavelength { plan: FrequencyPlan, frequency: u32 },
+    Tidy,
     Ask(Question),
 }
 
@@ -61,6 +64,10 @@ pub enum Answer {
     FrequencyRefused(Refusal),
     Wavelength(Wavelength),
     WavelengthRefused(Refusal),
+    Tidied {
+        rounds: usize,
+        moves: Vec<Move>,
+    },
     Written(Vec<u8>),
     FileWritten {
         length: usize,
@@ -88,7 +95,7 @@ impl Planner {
         Planner::default()
     }
 
-    /// A planner that has the ring rules checked at every opening and closing.
+    /// A planner that has the ring rules checked at every opening, closing and tidying.
     pub fn checking_rules() -> Planner {
         Planner { desk: Desk::checking_rules() }
     }
@@ -104,6 +111,7 @@ impl Planner {
             Some(Command::Read(source)) => self.read(source),
             Some(Command::Frequency { plan, wavelength }) => frequency(plan, wavelength),
             Some(Command::Wavelength { plan, frequency }) => wavelength(plan, frequency),
+            Some(Command::Tidy) => self.tidy(),
             Some(Command::Ask(question)) => match self.table() {
                 Some(table) => question.answer(table),
                 None => LINE_REFUSED,
@@ -128,6 +136,15 @@ impl Planner {
             }
             Err(refusal) => Answer::ReadRefused(refusal),
         }
+    }
+
+    fn tidy(&mut self) -> Answer {
+        let mut list = [Move::default(); RECORDS_LEAST];
+        let Some(tidied) = self.desk.tidy(&mut list) else {
+            return LINE_REFUSED;
+        };
+        let tidying = tidied.expect("the table in force meets the ring rules");
+        Answer::Tidied { rounds: tidying.rounds, moves: list[..tidying.moves].to_vec() }
     }
 }
 
@@ -192,6 +209,7 @@ pub fn parse(line: &[u8]) -> Option<Command> {
             plan: frequency_plan(&mut words)?,
             frequency: four_bytes(words.next()?)?,
         },
+        b"tidy" => Command::Tidy,
         b"write" => Command::Ask(match words.next() {
             None => Question::Write,
             Some(word) => Question::WriteFile(path(word)?),
@@ -267,6 +285,10 @@ impl Answer {
             Answer::Wavelength(wavelength) => writeln!(out, "wavelength {}", wavelength.0),
             Answer::WavelengthRefused(refusal) => {
                 writeln!(out, "wavelength refused {}", refusal.number())
+            }
+            Answer::Tidied { rounds, moves } => {
+                writeln!(out, "tidy rounds {rounds} moves {}", moves.len())?;
+                moves.iter().try_for_each(|record| write_move(record, out))
             }
             Answer::Written(form) => writeln!(out, "write {} {}", form.len(), hexadecimal(form)),
             Answer::FileWritten { length } => writeln!(out, "write {length}"),

@@ -20,7 +20,7 @@ pub enum Refusal {
     NoWavelength = 16,
     /// The direction is neither 0 nor 1.
     NoDirection = 17,
-    /// The move list has under three records.
+    /// The move list has under three records, or for a tidying under 128.
     ShortMoveList = 20,
     /// The output buffer is shorter than what goes into it.
     ShortBuffer = 21,

@@ -7,6 +7,7 @@ use crate::lines::{for_each_line, number, words};
 use crate::opening::{Move, Opening, MOVES_MOST};
 use crate::refusal::Refusal;
 use crate::table::Table;
+use crate::tidying::Tidying;
 
 /// The longest line taken, without its line end.
 pub const LINE_MOST: usize = 256;
@@ -56,7 +57,7 @@ impl Desk {
         Desk::default()
     }
 
-    /// A desk that has the ring rules checked at every opening and closing.
+    /// A desk that has the ring rules checked at every opening, closing and tidying.
     pub fn checking_rules() -> Desk {
         Desk { table: None, check_rules: true }
     }
@@ -85,6 +86,12 @@ impl Desk {
     /// Takes a table that meets the ring rules in place of its own.
     pub(crate) fn put_in_force(&mut self, table: Table) {
         self.table = Some(table);
+    }
+
+    /// Tidies the table in force, if there is one.
+    pub(crate) fn tidy(&mut self, list: &mut [Move]) -> Option<Result<Tidying, Refusal>> {
+        let table = self.table.as_mut()?;
+        Some(if self.check_rules { table.tidy(list) } else { table.tidy_good_table(list) })
     }
 
     fn ring(&mut self, nodes: u8, ports: &[u8]) -> Answer {
@@ -190,7 +197,7 @@ impl Answer {
     }
 }
 
-fn write_move(record: &Move, out: &mut impl Write) -> io::Result<()> {
+pub(crate) fn write_move(record: &Move, out: &mut impl Write) -> io::Result<()> {
     let Move { number, from, to } = record;
     writeln!(out, "move {number} from {} to {}", from.0, to.0)
 }

@@ -4,18 +4,16 @@
 mod common;
 
 use common::{
-    circuit, ring, ring_of_01, ring_where_first_fits, ring_where_second_fits, ring_with_return,
-    standing,
+    circuit, coverage_of, read_line, ring, ring_of_01, ring_where_first_fits,
+    ring_where_second_fits, ring_with_return, standing,
 };
 use ring::circuit::Circuit;
 use ring::coverage::{
     grid_events, Coverage, Event, GridEvent, LineFault, Off, Way, PLAN_EVENTS, SCRIPT_EVENTS,
 };
-use ring::form::{write, Fault, FORM_MOST};
+use ring::form::Fault;
 use ring::place::Direction::{Clockwise, Counterclockwise};
 use ring::place::Place;
-use ring::plan::{hexadecimal, Planner};
-use ring::program::Program;
 use ring::table::{Channel, Table};
 
 /// The planner reads the table and opens the circuit; both count.
@@ -25,21 +23,6 @@ fn coverage(table: &Table, new: Circuit) -> Coverage {
         &read_line(table),
         &format!("open {number} {source} {destination} {remark} {account}"),
     ])
-}
-
-fn read_line(table: &Table) -> String {
-    let mut form = [0; FORM_MOST];
-    let length = write(table, &mut form).unwrap();
-    format!("read {}", hexadecimal(&form[..length]))
-}
-
-fn coverage_of(lines: &[&str]) -> Coverage {
-    let mut coverage = Coverage::of(Program::Plan);
-    let mut planner = Planner::new();
-    for line in lines {
-        coverage.run_plan_line(&mut planner, line.as_bytes());
-    }
-    coverage
 }
 
 /// The events of the opening, each of which came once.

@@ -5,11 +5,12 @@ use std::collections::BTreeSet;
 use ring::comparison::Expected;
 use ring::coverage::{Coverage, Event};
 use ring::form::{read, FORM_MOST};
-use ring::generator::{form, script, Generator, Kind};
+use ring::generator::{crowded_form, dear_form, form, script, Generator, Kind};
+use ring::opening::Move;
 use ring::place::Direction::{Clockwise, Counterclockwise};
 use ring::plan::{hexadecimal, parse, Answer, Command, Planner, Question, Source};
 use ring::program::Program;
-use ring::table::Channel;
+use ring::table::{Channel, Table};
 
 const PROGRAMS: [Program; 2] = [Program::Script, Program::Plan];
 const KINDS: [Kind; 5] = [Kind::Small, Kind::Large, Kind::Mixed, Kind::Light, Kind::Forms];
@@ -135,8 +136,51 @@ fn forms_have_shared_places_and_both_directions() {
 
 #[test]
 fn a_seed_gives_one_form_and_another_seed_another() {
-    assert_eq!(form(64, 192, 5), form(64, 192, 5));
-    assert_ne!(form(64, 192, 5), form(64, 192, 6));
+    let kinds: [fn(u64) -> Vec<u8>; 3] =
+        [|seed| form(64, 192, seed), |seed| crowded_form(64, seed), dear_form];
+    for form in kinds {
+        assert_eq!(form(5), form(5));
+        assert_ne!(form(5), form(6));
+    }
+}
+
+/// The table of a form with a circuit alone at each of 128 places.
+fn with_all_alone(form: &[u8], nodes: u8) -> Table {
+    let table = read(form).unwrap();
+    assert_eq!((table.nodes, table.ring_ports()), (nodes, 192));
+    assert_eq!(table.nonsharing().count(), 128);
+    table
+}
+
+/// Tidies and gives the rounds.
+fn rounds(table: &mut Table) -> usize {
+    table.tidy(&mut [Move::default(); 128]).unwrap().rounds
+}
+
+#[test]
+fn crowded_forms_have_a_circuit_alone_at_each_place_and_much_to_tidy() {
+    for nodes in 3..=64 {
+        for seed in 0..4 {
+            let rounds = rounds(&mut with_all_alone(&crowded_form(nodes, seed), nodes));
+            assert!(rounds > 50, "{rounds} rounds, {nodes} nodes, seed {seed}");
+        }
+    }
+}
+
+#[test]
+fn dear_forms_have_256_pairs_that_are_passed_over_in_every_round() {
+    for seed in 0..20 {
+        let mut tidied = with_all_alone(&dear_form(seed), 64);
+        assert!(rounds(&mut tidied) > 25, "seed {seed}");
+        // What is passed over to the end was before those that were joined, at places below 64.
+        let left: Vec<_> = tidied.nonsharing().collect();
+        let mut passed_over = 0;
+        for (index, a) in left.iter().enumerate() {
+            let adjacent = left[index + 1..].iter().filter(|b| a.circuit.is_adjacent_to(b.circuit));
+            passed_over += adjacent.filter(|b| b.place.0 < 64).count();
+        }
+        assert_eq!(passed_over, 256, "seed {seed}");
+    }
 }
 
 #[test]

@@ -3,8 +3,8 @@
 mod common;
 
 use common::{
-    circuit, open, ring, ring_of_01, ring_where_first_fits, ring_where_second_fits,
-    ring_with_return, standing, tables,
+    check_moves, circuit, circuits_by_number, open, record, ring, ring_of_01,
+    ring_where_first_fits, ring_where_second_fits, ring_with_return, standing, tables, UNWRITTEN,
 };
 use ring::circuit::Circuit;
 use ring::generator::Kind;
@@ -17,12 +17,6 @@ use ring::table::{Channel, Table};
 fn answer(place: u8, moves: usize, looks: u32) -> Result<Opening, Refusal> {
     Ok(Opening { place: Place(place), moves, looks })
 }
-
-fn record(number: u32, from: u8, to: u8) -> Move {
-    Move { number, from: Place(from), to: Place(to) }
-}
-
-const UNWRITTEN: Move = Move { number: 999, from: Place(99), to: Place(98) };
 
 #[test]
 fn step_1_comes_before_a_free_place() {
@@ -301,28 +295,12 @@ fn check_opening(before: &Table, new: Circuit) {
     assert_eq!((after.nodes, after.ports), (before.nodes, before.ports));
     assert_eq!(after.place_of(new.number), Some(opening.place));
     let mut circuits: Vec<Circuit> = before.circuits().chain([new]).collect();
-    let mut circuits_after: Vec<Circuit> = after.circuits().collect();
     circuits.sort_by_key(|circuit| circuit.number);
-    circuits_after.sort_by_key(|circuit| circuit.number);
-    assert_eq!(circuits, circuits_after);
+    assert_eq!(circuits, circuits_by_number(&after));
     check_moves(before, &after, &list[..opening.moves]);
     assert_eq!(list[opening.moves..], [UNWRITTEN; 3][opening.moves..]);
     assert!(opening.looks <= 8256);
     assert!((1..=after.nodes).all(|link| one_lightpath_each(&after, link)));
-}
-
-fn check_moves(before: &Table, after: &Table, list: &[Move]) {
-    let place = |table: &Table, number| table.place_of(number).unwrap();
-    let mut moved: Vec<u32> = before.circuits().map(|circuit| circuit.number).collect();
-    moved.retain(|&number| place(before, number) != place(after, number));
-    let mut listed: Vec<u32> = list.iter().map(|record| record.number).collect();
-    moved.sort();
-    listed.sort();
-    assert_eq!(moved, listed);
-    for record in list {
-        assert_eq!(record.from, place(before, record.number));
-        assert_eq!(record.to, place(after, record.number));
-    }
 }
 
 fn one_lightpath_each(table: &Table, link: u8) -> bool {

@@ -264,7 +264,6 @@ fn questions_of_the_table_openings_and_closings_need_one() {
 fn lines_of_other_releases_and_the_picture_are_refused() {
     let lines = [
         "show",
-        "tidy",
         "from 1",
         "ends 1 1 2",
         "ports 1 1 1 1 1",

@@ -63,7 +63,7 @@ fn lines_end_at_lf() {
 
 #[test]
 fn lines_that_are_no_request() {
-    let lines: [&[u8]; 28] = [
+    let lines: [&[u8]; 29] = [
         b"\n",
         b" \n",
         b"ring\n",
@@ -92,6 +92,7 @@ fn lines_that_are_no_request() {
         b"close \xB2\n",
         b"frequency 500 -3 0\n",
         b"wavelength 500 -3 1929500\n",
+        b"tidy\n",
     ];
     lines.into_iter().for_each(is_refused_line);
 }

@@ -1,18 +1,22 @@
 -- Comparisons of numbers: which are one test, and what they count. Assumes nothing.
 use Prim.Native.Nat.{ℕ, _+_, _<_}
-use mathlib.Core.Path.{_≡_, refl}
+use mathlib.Core.Path.{_≡_, refl, sym}
 use mathlib.Core.Logic.{_≢_}
 use mathlib.Core.Bool.{Bool, true, false, not}
 use native.Mathlib.Decide.{decLt, ℕ-discrete}
 use native.Mathlib.Omega.{arith}
 use lib.Dec.{eqb, ltb}
-use borrow.Author.Tests.{ltb-true, lt-ltb, le-ltb}
+use borrow.Author.Tests.{eqb-true, eq-eqb, ltb-true, lt-ltb, le-ltb}
 use Rattle.basis.specs.Choice.{bit}
 use Rattle.basis.proofs.Bools.{same-test, bit-eq, bit-ne}
 
 -- two comparisons of which each holds where the other does are one test
 pub ltb-same : (a b x y : ℕ) → (a < b → x < y) → (x < y → a < b) → ltb a b ≡ ltb x y
 ltb-same a b x y f g = same-test _ _ (λ h. lt-ltb x y (f (ltb-true a b h))) (λ h. lt-ltb a b (g (ltb-true x y h)))
+
+-- an equality is one test either way round
+pub eqb-swap : (m n : ℕ) → eqb m n ≡ eqb n m
+eqb-swap m n = same-test _ _ (λ h. eq-eqb n m (sym (eqb-true m n h))) (λ h. eq-eqb m n (sym (eqb-true n m h)))
 
 -- a test and its opposite count 1
 pub bit-not : (b : Bool) → bit (not b) + bit b ≡ 1

@@ -1,6 +1,6 @@
 -- Weights, and distinct keys. Assumes nothing.
 use Prim.Native.Nat.{ℕ, zero, suc, _+_, _≤_, _<_, zero-le}
-use mathlib.Core.Path.{_≡_, refl, sym}
+use mathlib.Core.Path.{_≡_, refl, sym, _∙_}
 use mathlib.Core.Bool.{Bool, true, false}
 use mathlib.Core.List.{List, [], _∷_, _++_, map}
 use native.Mathlib.Nat.{le-of-suc-le-suc, not-suc-le-zero}
@@ -12,6 +12,7 @@ use borrow.Author.Tests.{eqb-true, eq-eqb, ne-eqb}
 use Rattle.basis.specs.Choice.{pick, bit}
 use Rattle.basis.specs.Count.{weigh, tally, distinct, All}
 use Rattle.basis.proofs.Bools.{and-left, and-right, and-both, bit-eq, bit-ne, all-map, all-and}
+use Rattle.basis.proofs.Compare.{eqb-swap}
 
 -- the weight of two lists joined
 pub weigh-append : {A : Type 0} (w : A → ℕ) (xs ys : List A) → weigh w (xs ++ ys) ≡ weigh w xs + weigh w ys
@@ -28,6 +29,17 @@ pub weigh-balance : {A : Type 0} (f g h k : A → ℕ) (xs : List A) → All (λ
     → weigh f xs + weigh g xs ≡ weigh h xs + weigh k xs
 weigh-balance f g h k [] e = refl
 weigh-balance f g h k (x ∷ xs) e = omega (arith, weigh-balance f g h k xs (e .1))
+
+-- the sum of two weights
+weigh-add : {A : Type 0} (f g : A → ℕ) (xs : List A) → weigh (λ x. f x + g x) xs ≡ weigh f xs + weigh g xs
+weigh-add f g [] = refl
+weigh-add f g (x ∷ xs) = omega (arith, weigh-add f g xs)
+
+-- a weight of pairs has one sum over two lists, whichever is gone through first
+pub weigh-swap : {A B : Type 0} (f : A → B → ℕ) (xs : List A) (ys : List B) → weigh (λ x. weigh (f x) ys) xs ≡ weigh (λ y. weigh (λ x. f x y) xs) ys
+weigh-swap f [] [] = refl
+weigh-swap f [] (y ∷ ys) = omega (arith, weigh-swap f [] ys)
+weigh-swap f (x ∷ xs) ys = omega (arith, weigh-swap f xs ys, weigh-add (f x) (λ y. weigh (λ x. f x y) xs) ys)
 
 -- a list in which each element weighs at most 1 weighs at most its length
 pub weigh-most : {A : Type 0} (w : A → ℕ) → ((x : A) → w x ≤ 1) → (xs : List A) → weigh w xs ≤ length xs
@@ -73,6 +85,21 @@ counted key (x ∷ xs) = (
   omega (arith, bit-eq (key x) (key x) refl),
   all-map (λ y. 0 < tally key (key y) xs) (λ y. 0 < tally key (key y) (x ∷ xs)) (λ y h. omega arith) xs (counted key xs),
 )
+
+-- what holds of each element by its key holds of each key that there is
+pub by-key : {A : Type 0} (key : A → ℕ) (P : ℕ → Type 0) (xs : List A) → All (λ x. P (key x)) xs → (k : ℕ) → 0 < tally key k xs → P k
+by-key key P [] h k l = absurd (omega arith)
+by-key key P (x ∷ xs) h k l = go (ℕ-discrete (key x) k) (by-key key P xs (h .1) k)
+  where
+    go : Dec (key x ≡ k) → (0 < tally key k xs → P k) → P k
+    go (yes e) rest = rw e at (h .0)
+    go (no n) rest = rest (omega (arith, bit-ne (key x) k n))
+
+-- two lists have as many pairs of one key whichever is counted by the keys of the other
+pub tally-swap : {A B : Type 0} (f : A → ℕ) (g : B → ℕ) (xs : List A) (ys : List B)
+    → weigh (λ x. tally g (f x) ys) xs ≡ weigh (λ y. tally f (g y) xs) ys
+tally-swap f g xs ys =
+    (λ i. weigh (λ x. weigh (λ y. bit (eqb-swap (g y) (f x) i)) ys) xs) ∙ weigh-swap (λ x y. bit (eqb (f x) (g y))) xs ys
 
 -- where keys are distinct, each is counted at most once
 pub distinct-most : {A : Type 0} (key : A → ℕ) (xs : List A) → distinct key xs ≡ true → (k : ℕ) → tally key k xs ≤ 1

@@ -5,10 +5,13 @@ use Rattle.basis.specs.Count.{All}
 use Rattle.lightpath.specs.Circuit.{ahead, users}
 use Rattle.lit_words.specs.Lit.{bitOf, word, noneLitFrom}
 use Rattle.moves.specs.Lent.{written}
+use Rattle.moves.specs.MoveList.{writtenAll}
 use Rattle.steps.specs.Steps.{planOf}
+use Rattle.tidying.specs.Tidying.{tidyWithin}
 use Rattle.ring.specs.Making.{makeOf}
 use Rattle.ring.specs.Opening.{decideOf}
 use Rattle.ring.specs.Closing.{closeOf}
+use Rattle.ring.specs.Tidying.{decideTidyOf}
 use Rattle.form.specs.Bytes.{highFirst, numberFrom}
 use Rattle.form.specs.Form.{mapBytes, fieldMap, optionalBytes, circuitBytes, recordBytes, recordsBytes, formOf}
 use Rattle.form.specs.Reading.{readPorts, mapBit, readMap, readOptional, readCircuit, mapHolds, readSecond, readRecord, readPlaceBy, readRecordsBy, checked, readTable, readOf}
@@ -26,7 +29,7 @@ each (c ∷ cs) e = ((cc), each cs (cc))
 
 -- the answers to the table's, computed
 computed : map (λ c. answerTo (c .asked)) cases ≡ map (λ c. c .expected) cases
-unfolding ahead word noneLitFrom makeOf decideOf closeOf planOf written formOf mapBytes recordsBytes recordBytes fieldMap circuitBytes highFirst optionalBytes bitOf numberFrom readOf readTable checked readRecordsBy readPlaceBy readRecord readSecond mapHolds readCircuit readOptional readMap mapBit readPorts tunedOf carriedOf frequencyAt wavelengthAt users lightpathsBelow loadsTo reportOf
+unfolding ahead word noneLitFrom makeOf decideOf closeOf decideTidyOf tidyWithin planOf written writtenAll formOf mapBytes recordsBytes recordBytes fieldMap circuitBytes highFirst optionalBytes bitOf numberFrom readOf readTable checked readRecordsBy readPlaceBy readRecord readSecond mapHolds readCircuit readOptional readMap mapBit readPorts tunedOf carriedOf frequencyAt wavelengthAt users lightpathsBelow loadsTo reportOf
 computed = refl
 
 -- so each of its cases holds

@@ -1,6 +1,6 @@
 -- Cases by kind: what is asked, and what the definitions answer. Assumes nothing.
 -- What is asked and answered in 01's and 02's cases, for a reader to check beside them.
-use Prim.Native.Nat.{ℕ, _+_}
+use Prim.Native.Nat.{ℕ, _+_, _-_}
 use mathlib.Core.Path.{_≡_}
 use mathlib.Core.List.{List, [], _∷_, _++_}
 use lib.ListN.{length, getD, replicate}
@@ -12,6 +12,7 @@ use Rattle.lightpath.specs.declared.Circuit.{Circuit}
 use Rattle.lightpath.specs.Circuit.{next, hops, adjacent, canShare}
 use Rattle.lightpath.specs.BeforeE1.{canShareBeforeE1}
 use Rattle.moves.specs.declared.Move.{Move}
+use Rattle.moves.specs.Records.{blank}
 use Rattle.moves.specs.Lent.{blanks}
 use Rattle.ports.specs.Ports.{wavelengths}
 use Rattle.refusals.specs.Answer.{Answer as Reply, refusal, verdictAnswer}
@@ -22,7 +23,8 @@ use Rattle.ring.specs.declared.RingTable.{RingTable}
 use Rattle.ring.specs.Making.{makeOf}
 use Rattle.ring.specs.Opening.{openOf, lentAfter}
 use Rattle.ring.specs.Closing.{closeOf}
-use Rattle.ring.specs.Answer.{openingAnswer}
+use Rattle.ring.specs.Tidying.{tidyOf, tidyLentAfter}
+use Rattle.ring.specs.Answer.{openingAnswer, tidyingAnswer}
 use Rattle.form.specs.Form.{formOf}
 use Rattle.form.specs.Reading.{readOf}
 use Rattle.load.specs.Load.{linkLoad}
@@ -43,6 +45,8 @@ pub data Question : Type 0 where
   opening : RingTable → Circuit → Question
   -- a circuit closed by its number
   closing : RingTable → ℕ → Question
+  -- a table tidied, so many blank records lent
+  tidying : RingTable → ℕ → Question
   -- a table saved
   saving : RingTable → Question
   -- a form read
@@ -63,7 +67,8 @@ pub data Answer : Type 0 where
   notAdjacent : Answer
   -- K and W
   dimensions : ℕ → ℕ → Answer
-  -- the number and values of a making, an opening, a closing or a reading, with the lent list, if there is one, and the table after it
+  -- the number and values of a making, an opening, a closing, a tidying or a reading, with the lent list, if there is one, and the table
+  -- after it
   replied : Reply → List Move → RingTable → Answer
   -- the length of a form, and byte 0 of its map
   saved : ℕ → ℕ → Answer
@@ -89,6 +94,14 @@ opened p k looks lent t = replied (record { number = 0; values = p ∷ k ∷ loo
 -- the number that refuses one, with the same
 abbrev pub notOpened : ℕ → List Move → RingTable → Answer
 notOpened n lent t = replied (refusal n) lent t
+
+-- rounds of a tidying, the records written to a list of so many, the others blank, and the table after it
+abbrev pub tidied : ℕ → List Move → ℕ → RingTable → Answer
+tidied rounds ms n t = replied (record { number = 0; values = rounds ∷ length ms ∷ [] }) (ms ++ replicate (n - length ms) blank) t
+
+-- the number that refuses one, with such a list
+abbrev pub notTidied : ℕ → ℕ → RingTable → Answer
+notTidied r n t = replied (refusal r) (replicate n blank) t
 
 -- a question and the answer to it
 pub record Case : Type 0 where
@@ -122,6 +135,8 @@ answerTo (ports ks) = dimensions (total ks) (wavelengths ks)
 answerTo (making N ks) = replied (verdictAnswer (makeOf N ks .verdict)) [] (makeOf N ks .table)
 answerTo (opening t c) = replied (openingAnswer (openOf t c blanks .answer)) (lentAfter t c blanks) (openOf t c blanks .table)
 answerTo (closing t n) = replied (verdictAnswer (closeOf t n .verdict)) [] (closeOf t n .table)
+answerTo (tidying t n) =
+    let lent = replicate n blank in replied (tidyingAnswer (tidyOf t lent .answer)) (tidyLentAfter t lent) (tidyOf t lent .table)
 answerTo (reading s) = replied (verdictAnswer (readOf s .verdict)) [] (readOf s .table)
 answerTo (tuning p w) = told (tunedAnswer (tunedOf p w))
 answerTo (tracing p f) = told (carriedAnswer (carriedOf p f))

@@ -15,7 +15,7 @@ use Rattle.refusals.specs.Answer.{refusal}
 use Rattle.ring.specs.declared.RingTable.{RingTable}
 use Rattle.ring.specs.Table.{blankTable}
 use Rattle.form.specs.Form.{formOf}
-use Rattle.cases.specs.Case.{pair, pairBeforeE1, ports, making, opening, closing, saving, reading, tuning, tracing, reporting, stepping, Question, shares, notAdjacent, dimensions, saved, told, reported, stepped, done, refused, opened, notOpened, Answer, Case, _gives_}
+use Rattle.cases.specs.Case.{pair, pairBeforeE1, ports, making, opening, closing, tidying, saving, reading, tuning, tracing, reporting, stepping, Question, shares, notAdjacent, dimensions, saved, told, reported, stepped, done, refused, opened, notOpened, tidied, notTidied, Answer, Case, _gives_}
 
 -- a circuit without a remark and without an account: number, source, destination
 abbrev circuit : ℕ → ℕ → ℕ → Circuit
@@ -259,6 +259,69 @@ loads =
     ∷ stepping opened16 clockwise 4 gives stepped 5 1 0 1 0
     ∷ []
 
+-- six nodes with two ports each: eight places
+abbrev ring6 : List Slot → RingTable
+ring6 u = ring 6 (replicate 6 2) u
+
+-- 1→3 with 3→4 shares clockwise, 1→5 with 5→4 counterclockwise, 2→3 with 3→2 both ways
+abbrev a13 : Circuit
+a13 = circuit 1 1 3
+
+abbrev b34 : Circuit
+b34 = circuit 2 3 4
+
+abbrev a15 : Circuit
+a15 = circuit 1 1 5
+
+abbrev b54 : Circuit
+b54 = circuit 2 5 4
+
+abbrev a23 : Circuit
+a23 = circuit 1 2 3
+
+abbrev b32 : Circuit
+b32 = circuit 2 3 2
+
+-- eight nodes with a port each: six places
+abbrev waiting : List Slot → RingTable
+waiting u = ring 8 (replicate 8 1) u
+
+-- 02, E5: the tidyings
+abbrev tidyings : List Case
+tidyings =
+    -- a member stands in a direction they can share: the first, the second
+    tidying (ring6 (alone a13 ∷ alone b34 ∷ [])) 128 gives tidied 1 (move 2 1 0 ∷ []) 128 (ring6 (shared a13 b34 ∷ []))
+    ∷ tidying (ring6 (alone a15 ∷ alone b54 ∷ [])) 128 gives tidied 1 (move 1 0 1 ∷ []) 128 (ring6 (unlit ∷ shared a15 b54 ∷ []))
+    -- both do: the lower place stays, also of a circuit and its return in different directions
+    ∷ tidying (ring6 (alone b34 ∷ unlit ∷ alone a13 ∷ [])) 128 gives tidied 1 (move 1 2 0 ∷ []) 128 (ring6 (shared a13 b34 ∷ []))
+    ∷ tidying (ring6 (unlit ∷ alone b32 ∷ alone a23 ∷ [])) 128 gives tidied 1 (move 1 2 1 ∷ []) 128 (ring6 (unlit ∷ shared a23 b32 ∷ []))
+    -- neither does: both move to the lowest unlit place of that direction, lower old place first, and not to a lower one of the other
+    ∷ tidying (ring6 (unlit ∷ alone b34 ∷ unlit ∷ alone a13 ∷ [])) 128
+    gives tidied 1 (move 2 1 0 ∷ move 1 3 0 ∷ []) 128 (ring6 (shared a13 b34 ∷ []))
+    ∷ tidying (ring6 (alone (circuit 5 2 5) ∷ unlit ∷ unlit ∷ alone (circuit 9 1 3) ∷ unlit ∷ alone (circuit 4 3 4) ∷ [])) 130
+    gives tidied 1 (move 9 3 2 ∷ move 4 5 2 ∷ []) 130 (ring6 (alone (circuit 5 2 5) ∷ unlit ∷ shared (circuit 4 3 4) (circuit 9 1 3) ∷ []))
+    -- a pair is passed over, for want of an unlit place, and a later one joined
+    ∷ tidying (ring 5 (3 ∷ 1 ∷ 3 ∷ 1 ∷ 1 ∷ []) (alone (circuit 1 1 3) ∷ alone (circuit 2 1 2) ∷ alone (circuit 3 4 5) ∷ alone (circuit 4 2 3) ∷ alone (circuit 5 1 3) ∷ alone (circuit 6 5 4) ∷ [])) 128
+    gives tidied 1 (move 6 5 2 ∷ []) 128
+    (ring 5 (3 ∷ 1 ∷ 3 ∷ 1 ∷ 1 ∷ []) (alone (circuit 1 1 3) ∷ alone (circuit 2 1 2) ∷ shared (circuit 3 4 5) (circuit 6 5 4) ∷ alone (circuit 4 2 3) ∷ alone (circuit 5 1 3) ∷ []))
+    -- two rounds: the second uses the place that the first has left
+    ∷ tidying (ring 6 (replicate 6 1) (alone (circuit 1 1 2) ∷ alone (circuit 3 4 5) ∷ alone (circuit 2 2 3) ∷ alone (circuit 4 5 6) ∷ [])) 128
+    gives tidied 2 (move 2 2 0 ∷ move 3 1 2 ∷ move 4 3 2 ∷ []) 128
+    (ring 6 (replicate 6 1) (shared (circuit 1 1 2) (circuit 2 2 3) ∷ unlit ∷ shared (circuit 3 4 5) (circuit 4 5 6) ∷ []))
+    -- and joins a pair that the first has passed over
+    ∷ tidying (waiting (alone (circuit 1 4 8) ∷ alone (circuit 2 1 2) ∷ alone (circuit 3 5 6) ∷ alone (circuit 4 2 3) ∷ alone (circuit 5 6 7) ∷ [])) 128
+    gives tidied 2 (move 5 4 2 ∷ move 2 1 4 ∷ move 4 3 4 ∷ []) 128
+    (waiting (alone (circuit 1 4 8) ∷ unlit ∷ shared (circuit 3 5 6) (circuit 5 6 7) ∷ unlit ∷ shared (circuit 2 1 2) (circuit 4 2 3) ∷ []))
+    -- nothing to tidy: no circuit, or none that can be joined
+    ∷ tidying (ring6 []) 128 gives tidied 0 [] 128 (ring6 [])
+    ∷ tidying (ring6 (shared a13 b34 ∷ unlit ∷ alone (circuit 3 4 1) ∷ [])) 128 gives tidied 0 [] 128 (ring6 (shared a13 b34 ∷ unlit ∷ alone (circuit 3 4 1) ∷ []))
+    -- a list of 127 records, whatever there is to tidy; a table that breaks a rule before it
+    ∷ tidying (ring6 (alone a13 ∷ alone b34 ∷ [])) 127 gives notTidied 20 127 (ring6 (alone a13 ∷ alone b34 ∷ []))
+    ∷ tidying (ring6 []) 127 gives notTidied 20 127 (ring6 [])
+    ∷ tidying blankTable 127 gives notTidied 22 127 blankTable
+    ∷ tidying (ring6 (shared b34 a13 ∷ [])) 128 gives notTidied 22 128 (ring6 (shared b34 a13 ∷ []))
+    ∷ []
+
 -- what is asked, and what the documents say to it
 abbrev pub cases : List Case
 cases =
@@ -344,4 +407,4 @@ cases =
     -- bit 2 or bit 4 without bit 1, and bits 5 to 7, with every field after them and with none
     ∷ map (λ m. (m ∷ n1 ++ r1 ++ a1 ++ n2 ++ r2 ++ a2) refusedBy 31) badMaps
     ++ map (λ m. (m ∷ []) refusedBy 31) badMaps
-    ++ frequencies ++ loads
+    ++ frequencies ++ loads ++ tidyings

@@ -82,7 +82,7 @@ stood-put f ch t [] h = refl
 stood-put f ch t (o ∷ chs) h = rw (put-there ch t (o .place) (h .0), stood-put f ch t chs (h .1))
 
 -- an amount for each content: after, with what stood at the changed places, it is what it was before, with what they get
-puts-sum : (f : Slot → ℕ) (chs : List Change) (t : Channels) → Apart chs → Within t chs
+pub puts-sum : (f : Slot → ℕ) (chs : List Change) (t : Channels) → Apart chs → Within t chs
     → weigh f (slots (puts chs t)) + weigh (λ ch. f (at t (ch .place))) chs ≡ weigh f (slots t) + weigh (λ ch. f (ch .slot)) chs
 puts-sum f [] t a l = refl
 puts-sum f (ch ∷ chs) t a l =

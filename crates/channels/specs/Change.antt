@@ -1,4 +1,4 @@
--- What an opening or a closing does to a table: places get new contents, one after the other. Assumes nothing.
+-- What an opening, a closing or a tidying does to a table: places get new contents, one after the other. Assumes nothing.
 -- What the calls of the ring table promise.
 use Prim.Native.Nat.{ℕ}
 use mathlib.Core.List.{List, [], _∷_}

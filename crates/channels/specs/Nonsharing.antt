@@ -1,4 +1,5 @@
--- 01, "Opening a circuit": the nonsharing circuits by rising place. Assumes nothing. What `RingTable::open`, `decide` and `decide_valid` promise.
+-- 01, "Opening a circuit": the nonsharing circuits by rising place. Assumes nothing. What the calls of the ring table promise of openings and
+-- tidyings.
 use Prim.Native.Nat.{ℕ, suc}
 use mathlib.Core.Bool.{Bool}
 use mathlib.Core.List.{List, [], _∷_}

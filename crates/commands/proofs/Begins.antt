@@ -18,7 +18,7 @@ use Rattle.text.specs.Number.{number}
 use Rattle.text.specs.Signed.{signed}
 use Rattle.words.specs.Split.{words, sameText}
 use Rattle.commands.specs.declared.Command.{Command}
-use Rattle.commands.specs.declared.Command.the-variants.{Read, ReadFile, Write, WriteFile, Load, Link, Circuits, Show, Frequency, Wavelength, Desk}
+use Rattle.commands.specs.declared.Command.the-variants.{Read, ReadFile, Write, WriteFile, Load, Link, Circuits, Show, Frequency, Wavelength, Tidy, Desk}
 use Rattle.commands.specs.Command.{longestCommand, lastAt, byFirst, readCommand, writeCommand, given, field, givenSigned, signedField, atEnd, linkCommand, gridCommand, commandWords, commandOf}
 use Rattle.commands.proofs.Last.{last-within}
 
@@ -34,6 +34,7 @@ Begins n Circuits = Unit {0}
 Begins n Show = Unit {0}
 Begins n (Frequency spacing start wavelength) = Unit {0}
 Begins n (Wavelength spacing start frequency) = Unit {0}
+Begins n Tidy = Unit {0}
 Begins n Desk = Unit {0}
 
 -- each part of the definition keeps that
@@ -104,8 +105,9 @@ module _ (l : List ℕ) where
       (begins-pick (length l) (sameText w (bytes "link")) _ _ (begins-link ws)
       (begins-pick (length l) (sameText w (bytes "circuits")) _ _ (begins-end (length l) ws _ tt)
       (begins-pick (length l) (sameText w (bytes "show")) _ _ (begins-end (length l) ws _ tt)
+      (begins-pick (length l) (sameText w (bytes "tidy")) _ _ (begins-end (length l) ws _ tt)
       (begins-pick (length l) (sameText w (bytes "frequency")) _ _ (begins-grid Frequency (λ s z k. tt) ws)
-      (begins-pick (length l) (sameText w (bytes "wavelength")) _ _ (begins-grid Wavelength (λ s z k. tt) ws) tt)))))))
+      (begins-pick (length l) (sameText w (bytes "wavelength")) _ _ (begins-grid Wavelength (λ s z k. tt) ws) tt))))))))
 
   begins : Begins (length l) (commandOf l)
   unfolding commandOf

@@ -11,8 +11,8 @@ use Rattle.text.specs.Bytes.{bytes}
 use Rattle.words.specs.Split.{otherWords, wordLength, sameText}
 use Rattle.words.proofs.Split.{end-within, words-first}
 use Rattle.commands.specs.declared.Command.{Command}
-use Rattle.commands.specs.declared.Command.the-variants.{Load, Circuits, Show, Frequency, Wavelength, Desk}
-use Rattle.commands.specs.Command.{longestCommand, readCommand, writeCommand, atEnd, linkCommand, gridCommand, gridWords, commandWords, commandOf}
+use Rattle.commands.specs.declared.Command.the-variants.{Load, Circuits, Show, Frequency, Wavelength, Tidy, Desk}
+use Rattle.commands.specs.Command.{longestCommand, readCommand, writeCommand, atEnd, linkCommand, gridCommand, gridWords, changeWords, commandWords, commandOf}
 
 -- a line that is too long is left to the desk, which refuses it
 pub line-long : (l : List ℕ) → longestCommand < length l → Desk ≡ commandOf l
@@ -60,11 +60,21 @@ module _ (l : List ℕ) (end : ℕ) (e : end ≡ 0 + wordLength (drop 0 l)) wher
                 unfolding commandWords
                 line-show x t k = k ∙ sym (by-words ∙ rw (← is-a, not-a, ← is-b, not-b, ← is-c, not-c, ← is-d, not-d, ← is-g, not-g, ← is-f, t))
 
-                pub line-grid : (x : Command) → f ≡ false → x ≡ gridWords (take end l) (otherWords (drop end l)) → x ≡ commandOf l
+                pub line-change : (x : Command) → f ≡ false → x ≡ changeWords (take end l) (otherWords (drop end l)) → x ≡ commandOf l
                 unfolding commandWords
-                line-grid x t k = k ∙ sym (by-words ∙ rw (← is-a, not-a, ← is-b, not-b, ← is-c, not-c, ← is-d, not-d, ← is-g, not-g, ← is-f, t))
+                line-change x t k = k ∙ sym (by-words ∙ rw (← is-a, not-a, ← is-b, not-b, ← is-c, not-c, ← is-d, not-d, ← is-g, not-g, ← is-f, t))
 
-pub ruleset lines = (line-long, first-long, line-read, line-write, line-load, line-link, line-circuits, line-show, line-grid)
+pub ruleset lines = (line-long, first-long, line-read, line-write, line-load, line-link, line-circuits, line-show, line-change)
+
+-- a line that changes the table, or another
+module _ (w : List ℕ) (ws : List (List ℕ)) (a : Bool) (is-a : a ≡ sameText w (bytes "tidy")) where
+  pub change-tidy : (x : Command) → a ≡ true → x ≡ atEnd ws Tidy → x ≡ changeWords w ws
+  change-tidy x t k = k ∙ sym (rw (← is-a, t))
+
+  pub change-other : (x : Command) → a ≡ false → x ≡ gridWords w ws → x ≡ changeWords w ws
+  change-other x t k = k ∙ sym (rw (← is-a, t))
+
+pub ruleset change = (change-tidy, change-other)
 
 -- a line on the frequency grid
 module _ (w : List ℕ) (ws : List (List ℕ)) (a : Bool) (is-a : a ≡ sameText w (bytes "frequency")) where

@@ -16,7 +16,7 @@ use Rattle.text.specs.Number.{number}
 use Rattle.text.specs.Signed.{signed}
 use Rattle.words.specs.Split.{words, sameText}
 use Rattle.commands.specs.declared.Command.{Command}
-use Rattle.commands.specs.declared.Command.the-variants.{Read, ReadFile, Write, WriteFile, Load, Link, Circuits, Show, Frequency, Wavelength, Desk}
+use Rattle.commands.specs.declared.Command.the-variants.{Read, ReadFile, Write, WriteFile, Load, Link, Circuits, Show, Frequency, Wavelength, Tidy, Desk}
 
 -- of a form at most 4,096 bytes are read, from the digits of a word or from a file
 abbrev pub mostRead : ℕ
@@ -100,6 +100,10 @@ abbrev pub wayAsked : Bool → ℕ → ℤ → ℕ → Command
 wayAsked true = Wavelength
 wayAsked false = Frequency
 
+-- `tidy` (02, E5), or a line on the frequency grid, by its first word
+abbrev pub changeWords : List ℕ → List (List ℕ) → Command
+changeWords w ws = pick (sameText w (bytes "tidy")) (atEnd ws Tidy) (gridWords w ws)
+
 -- a line by its words: the first says which it is
 unfoldable pub commandWords : List ℕ → List (List ℕ) → Command
 commandWords l [] = Desk
@@ -110,7 +114,7 @@ commandWords l (w ∷ ws) =
     (pick (sameText w (bytes "link")) (linkCommand ws)
     (pick (sameText w (bytes "circuits")) (atEnd ws Circuits)
     (pick (sameText w (bytes "show")) (atEnd ws Show)
-    (gridWords w ws))))))
+    (changeWords w ws))))))
 
 unfoldable pub commandOf : List ℕ → Command
 commandOf l = pick (leb (length l) longestCommand) (commandWords l (words l)) Desk

@@ -4,7 +4,7 @@ ghost use mathlib.Core.Path.{_≡_};
 ghost use Prim.Native.Nat.{_≤_};
 ghost use lib.ListN.{length, drop};
 ghost use Rattle.words.specs.Split.{otherWords};
-ghost use Rattle.commands.specs.Command.{lastAt, byFirst, readCommand, writeCommand, atEnd, linkCommand, gridCommand, gridWords, wayAsked, commandOf};
+ghost use Rattle.commands.specs.Command.{lastAt, byFirst, readCommand, writeCommand, atEnd, linkCommand, gridCommand, gridWords, wayAsked, changeWords, commandOf};
 use words::Field;
 use words::MOST_U32;
 use words::SignedField;
@@ -39,6 +39,7 @@ pub enum Command {
         start: i32,
         frequency: u32,
     },
+    Tidy,
     Desk,
 }
 
@@ -182,6 +183,16 @@ fn parse_grid_line(first: &[u8], line: &[u8], end: usize) -> Command
     Command::Desk
 }
 
+// `tidy`, or a line on the frequency grid, by its first word, which ends at the position.
+fn parse_change_line(first: &[u8], line: &[u8], end: usize) -> Command
+    ensures { λ r. ⌜ r ≡ changeWords (now (first .entry)) (otherWords (drop end (now (line .entry)))) ⌝ }
+{
+    if words::same_text(first, b"tidy") {
+        return at_end(line, end, Command::Tidy);
+    }
+    parse_grid_line(first, line, end)
+}
+
 // What a line asks for, without its line end.
 pub fn parse_command(line: &[u8]) -> Command
     ensures { λ r. ⌜ r ≡ commandOf (now (line .entry)) ⌝ }
@@ -209,5 +220,5 @@ pub fn parse_command(line: &[u8]) -> Command
     if words::same_text(first, b"show") {
         return at_end(line, end, Command::Show);
     }
-    parse_grid_line(first, line, end)
+    parse_change_line(first, line, end)
 }

@@ -1,2 +1,3 @@
--- The lending of a local array, for the walk of `open_circuit`.
+-- The lending of a local array, for the walks of `open_lent` and `tidy_lent`.
 mod LocalArray
+mod Lending

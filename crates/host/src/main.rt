@@ -1,11 +1,13 @@
-// A host of the ring controller: it makes rings, opens circuits with a list of move records that it lends, closes some, saves a ring and asks
-// for its loads with lent bytes, and prints what it got.
+// A host of the ring controller: it makes rings, opens circuits and tidies with a list of move records that it lends, closes some, saves a
+// ring and asks for its loads with lent bytes, and prints what it got.
 // A demonstration: `main` promises only that it is safe, and what it prints is held to the file `stdout` by the gate.
 
 ghost use mathlib.Core.Path.{_≡_};
-ghost use lib.ListN.{replicate};
-ghost use Rattle.moves.specs.Records.{blank};
-ghost use Rattle.ring.specs.Opening.{openOf};
+ghost use mathlib.Core.List.{_++_};
+ghost use Prim.Native.Nat.{_≤_};
+ghost use lib.ListN.{take, drop};
+ghost use Rattle.ring.specs.Opening.{openOf, lentAfter};
+ghost use Rattle.ring.specs.Tidying.{tidyOf, tidyLentAfter};
 use encode::Written;
 use libc::STDOUT_FILENO;
 use lightpath::Circuit;
@@ -16,6 +18,21 @@ use refusals::Verdict;
 use ring::Opened;
 use ring::Opening;
 use ring::RingTable;
+use ring::Tidied;
+use ring::Tidying;
+
+// The list to lend has two records more than a tidying asks for.
+const LENT: usize = 130;
+
+// The list by value.
+type Records = [Move; LENT];
+
+// A record as it stands before it is lent.
+const MARK: Move = Move {
+    number: 99,
+    from: Place(9),
+    to: Place(9),
+};
 
 // A byte as a number to print.
 fn wide8(x: u8) -> u64 {
@@ -56,21 +73,43 @@ fn print_move(record: Move) {
     end_line();
 }
 
-// The first records of the list, as many as there are moves.
-fn print_moves(count: u8, list: [Move; 4]) {
-    if 0 < count {
-        print_move(list[0]);
+// Whether a record is as it stood before it was lent.
+fn marked(record: Move) -> bool {
+    if record.number != MARK.number {
+        return false;
     }
-    if 1 < count {
-        print_move(list[1]);
+    if record.from.0 != MARK.from.0 {
+        return false;
     }
-    if 2 < count {
-        print_move(list[2]);
+    record.to.0 == MARK.to.0
+}
+
+// A record is printed where it is a move's, and counted where it is another's that is as it stood.
+fn print_record(record: Move, moved: bool) -> u64
+    ensures { λ r. ⌜ r ≤ 1 ⌝ }
+{
+    if moved {
+        print_move(record);
+        return 0;
     }
+    if !marked(record) {
+        return 0;
+    }
+    1
+}
+
+// The first records of the list, as many as there are moves. It gives how many of the others are as they stood.
+fn print_moves(moves: u8, list: Records) -> u64 {
+    let count = moves as usize;
+    let mut kept: u64 = 0;
+    for i in 0..LENT {
+        kept += print_record(list[i], i < count);
+    }
+    kept
 }
 
 // What came of an opening.
-fn print_opening(circuit: Circuit, opened: Opened, list: [Move; 4]) {
+fn print_opening(circuit: Circuit, opened: Opened, list: Records) {
     print(b"open ", wide32(circuit.number));
     let answer = opened.answer;
     match answer {
@@ -92,26 +131,77 @@ fn print_opening(circuit: Circuit, opened: Opened, list: [Move; 4]) {
     }
 }
 
-// Four records to lend, one more than an opening ever writes.
-fn records() -> [Move; 4]
-    ensures { λ r. ⌜ r ≡ replicate 4 blank ⌝ }
-{
-    let record = Move {
-        number: 0,
-        from: Place(0),
-        to: Place(0),
-    };
-    [record; 4]
+// The end of a tidying's line, its moves, and how many of the other records are as they stood.
+fn print_list(moves: u8, list: Records) {
+    end_line();
+    print(b"kept ", print_moves(moves, list));
+    end_line();
 }
 
-// A circuit is opened with a list of four records, and the table after it is handed on.
-fn open_circuit(table: RingTable, circuit: Circuit) -> RingTable
-    ensures { λ r. ⌜ r ≡ openOf table circuit (replicate 4 blank) .table ⌝ }
+// What came of a tidying.
+fn print_tidying(tidied: Tidied, list: Records) {
+    let answer = tidied.answer;
+    match answer {
+        Tidying::Done { rounds, moves } => {
+            print(b" rounds ", wide8(rounds));
+            print(b" moves ", wide8(moves));
+            print_list(moves, list);
+        }
+        Tidying::Refused(refusal) => {
+            print_refusal(refusal);
+            print_list(0, list);
+        }
+    }
+}
+
+// The list as an opening left it, beside what came of it.
+struct OpenedList {
+    opened: Opened,
+    list: Records,
+}
+
+// A circuit is opened with the list lent.
+fn open_lent(table: RingTable, circuit: Circuit, mut list: Records) -> OpenedList
+    ensures { λ r. ⌜ r ≡ record { opened = openOf table circuit list; list = lentAfter table circuit list } ⌝ }
 {
-    let mut list = records();
     let opened = table.open(circuit, &mut list);
+    OpenedList { opened, list }
+}
+
+// A circuit is opened with all the records, and the table after it is handed on.
+fn open_circuit(table: RingTable, circuit: Circuit) -> RingTable {
+    let lent = open_lent(table, circuit, [MARK; LENT]);
+    let opened = lent.opened;
+    let list = lent.list;
     print_opening(circuit, opened, list);
     opened.table
+}
+
+// The list as a tidying left it, beside what came of it.
+struct TidiedList {
+    tidied: Tidied,
+    list: Records,
+}
+
+// A ring is tidied with so many records of the list lent.
+fn tidy_lent(table: RingTable, room: usize, mut list: Records) -> TidiedList
+    requires { ⌜ room ≤ 130 ⌝ }
+    ensures { λ r. ⌜ r ≡ record { tidied = tidyOf table (take room list); list = tidyLentAfter table (take room list) ++ drop room list } ⌝ }
+{
+    let tidied = table.tidy(&mut list[..room]);
+    TidiedList { tidied, list }
+}
+
+// A ring is tidied with so many records, and the table after it is handed on.
+fn tidy_ring(table: RingTable, room: usize) -> RingTable
+    requires { ⌜ room ≤ 130 ⌝ }
+{
+    let lent = tidy_lent(table, room, [MARK; LENT]);
+    let tidied = lent.tidied;
+    let list = lent.list;
+    print(b"tidy with ", room as u64);
+    print_tidying(tidied, list);
+    tidied.table
 }
 
 // The end of a line, with the refusal if there is one.
@@ -199,6 +289,18 @@ fn move_three() {
     open_circuit(table, circuit(25, 3, 5));
 }
 
+// On one of six, circuits that stand apart once 21 is closed: 22 and 24, both clockwise, and 23 and 25, which can share clockwise and both
+// stand counterclockwise.
+fn stand_apart() -> RingTable {
+    let table = make_ring(6, b"\x01\x01\x01\x01\x01\x01");
+    let table = open_circuit(table, circuit(21, 5, 6));
+    let table = open_circuit(table, circuit(22, 6, 1));
+    let table = open_circuit(table, circuit(23, 2, 3));
+    let table = open_circuit(table, circuit(24, 1, 2));
+    let table = open_circuit(table, circuit(25, 3, 4));
+    close_circuit(table, 21)
+}
+
 // The ring is saved in so many of 100 lent bytes.
 fn save_ring(table: RingTable, room: usize) {
     let mut lent = [0u8; 100];
@@ -238,4 +340,11 @@ fn main() {
     report_loads(table, 12);
     report_loads(table, 11);
     report_loads(RingTable::blank(), 12);
+    let table = stand_apart();
+    report_loads(table, 12);
+    tidy_ring(table, 127);
+    let table = tidy_ring(table, 128);
+    report_loads(table, 12);
+    tidy_ring(table, 130);
+    tidy_ring(RingTable::blank(), 127);
 }

@@ -32,6 +32,10 @@ mostTotal = 192
 abbrev pub leastRecords : ℕ
 leastRecords = 3
 
+-- 02, E5: for a tidying "the lent list needs 128 records"
+abbrev pub tidyRecords : ℕ
+tidyRecords = 128
+
 -- a place holds none, one or two circuits: what all places have room for
 abbrev pub circuitRoom : ℕ
 circuitRoom = 2 * placeCount

@@ -25,5 +25,8 @@ pub const MOST_TOTAL: u16 = 192;
 // The move records that a host lends at least.
 pub const LEAST_RECORDS: usize = 3;
 
+// And for a tidying, by document 02's E5.
+pub const TIDY_RECORDS: usize = 128;
+
 // The circuits that the places have room for: two each.
 pub const CIRCUIT_ROOM: usize = 2 * PLACE_COUNT;

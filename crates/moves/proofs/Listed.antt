@@ -1,5 +1,5 @@
 -- The moves of an answer by value and as a list. Assumes nothing.
-use Prim.Native.Nat.{_≤_}
+use Prim.Native.Nat.{_≤_, min}
 use mathlib.Core.Path.{_≡_, refl}
 use mathlib.Core.List.{List, [], _∷_}
 use native.Mathlib.Omega.{arith}
@@ -11,6 +11,10 @@ use Rattle.moves.specs.Records.{mostMoves, movesOf, listed}
 -- no answer lists more than three
 pub listed-most : (a : Moves) → length (listed a) ≤ mostMoves
 listed-most a = simp length-take (omega arith)
+
+-- there are as many as the count says, or three where it says more
+pub length-listed : (a : Moves) → length (listed a) ≡ min (a .count) mostMoves
+length-listed a = length-take (a .count) _
 
 -- up to three moves by value are listed again as they were
 pub listed-moves : (ms : List Move) → length ms ≤ mostMoves → listed (movesOf ms) ≡ ms

@@ -1,3 +1,5 @@
--- The definitions of the moves: records, then the list that a host lends.
+-- The definitions of the moves: records, the list that a host lends, then those of a tidying, and moves appended.
 pub mod Records
 pub mod Lent
+pub mod MoveList
+pub mod Appends

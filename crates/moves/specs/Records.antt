@@ -1,4 +1,4 @@
--- Move records, and the moves of an answer as a list. Assumes nothing. What `RingTable::open` promises.
+-- Move records, and the moves of an answer as a list. Assumes nothing. What `RingTable::open` and `tidy` promise.
 use Prim.Native.Nat.{ℕ}
 use mathlib.Core.List.{List, [], _∷_}
 use lib.ListN.{take}

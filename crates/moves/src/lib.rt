@@ -2,9 +2,16 @@
 
 use lightpath::Place;
 use limits::LEAST_RECORDS;
+use limits::TIDY_RECORDS;
 ghost use mathlib.Core.Path.{_≡_};
-ghost use Rattle.moves.specs.Records.{none, one, two, three};
+ghost use mathlib.Core.List.{[], _∷_};
+ghost use Prim.Native.Nat.{_+_, _<_, _≤_};
+ghost use lib.ListN.{length};
+ghost use Rattle.limits.specs.Limits.{tidyRecords};
+ghost use Rattle.moves.specs.Records.{none, one, two, three, listed};
 ghost use Rattle.moves.specs.Lent.{written};
+ghost use Rattle.moves.specs.MoveList.{listOf, writtenAll};
+ghost use Rattle.moves.specs.Appends.{Appends};
 
 // One move of a running circuit: its number, its old place and its new one.
 pub struct Move {
@@ -22,6 +29,12 @@ pub struct Moves {
     pub first: Move,
     pub second: Move,
     pub third: Move,
+}
+
+// The moves of a tidying by value, in their order: the first `count` of the list.
+pub struct MoveList {
+    pub count: usize,
+    pub list: [Move; TIDY_RECORDS],
 }
 
 // A record that names no move: all zeros.
@@ -81,6 +94,51 @@ impl Moves {
     }
 }
 
+impl MoveList {
+    // No moves.
+    pub fn none() -> Self
+        ensures { λ r. ⌜ r ≡ listOf [] ⌝ }
+    {
+        MoveList {
+            count: 0,
+            list: [BLANK; TIDY_RECORDS],
+        }
+    }
+
+    // These moves, and one more after them.
+    fn push(self, m: Move) -> Self
+        requires { ⌜ self .count < tidyRecords ⌝ }
+        ensures { λ r. ⌜ Appends self (m ∷ []) r ⌝ }
+    {
+        let count = self.count;
+        let mut list = self.list;
+        list[count] = m;
+        MoveList {
+            count: count + 1,
+            list,
+        }
+    }
+
+    // These moves, and up to three more after them.
+    pub fn with(self, moves: Moves) -> Self
+        requires { ⌜ self .count + length (listed moves) ≤ tidyRecords ⌝ }
+        ensures { λ r. ⌜ Appends self (listed moves) r ⌝ }
+    {
+        if moves.count < 1 {
+            return self;
+        }
+        let one = self.push(moves.first);
+        if moves.count < 2 {
+            return one;
+        }
+        let two = one.push(moves.second);
+        if moves.count < 3 {
+            return two;
+        }
+        two.push(moves.third)
+    }
+}
+
 // The moves are written to the first records of the lent list, and the others keep their values. A list of fewer than three records is
 // left as it is.
 pub fn write_moves(list: &mut [Move], moves: Moves)
@@ -97,5 +155,24 @@ pub fn write_moves(list: &mut [Move], moves: Moves)
     }
     if 2 < moves.count {
         list[2] = moves.third;
+    }
+}
+
+// The moves of a tidying are written to the first records of the lent list, in their order, and the others keep their values. A list of
+// fewer than 128 records is left as it is.
+pub fn write_list(list: &mut [Move], moves: MoveList)
+    ensures { λ _. ⌜ now (list .exit) ≡ writtenAll (now (list .entry)) moves ⌝ }
+{
+    if list.len() < TIDY_RECORDS {
+        return;
+    }
+    let mut end = moves.count;
+    if TIDY_RECORDS < end {
+        end = TIDY_RECORDS;
+    }
+    let mut i = 0;
+    while i < end {
+        list[i] = moves.list[i];
+        i += 1;
     }
 }

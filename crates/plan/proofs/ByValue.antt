@@ -22,7 +22,7 @@ use Rattle.steps.specs.Plan.{Plan, joining, lighting, oneMove, twoMoves, threeM
 use Rattle.plan.specs.Planned.{changesOf, Planned, plannedOf}
 
 -- one to three changes by value do what their list does
-carries : (l : List Change) (t : Channels) → 1 ≤ length l → length l ≤ 3 → puts (inOrder (changesOf l)) t ≡ puts l t
+pub carries : (l : List Change) (t : Channels) → 1 ≤ length l → length l ≤ 3 → puts (inOrder (changesOf l)) t ≡ puts l t
 carries [] t h k = absurd (omega arith)
 carries (a ∷ []) t h k = puts-one a t
 carries (a ∷ b ∷ []) t h k = puts-two a b t

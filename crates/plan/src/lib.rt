@@ -19,7 +19,9 @@ use lightpath::Place;
 use moves::Moves;
 use plan::joined;
 use plan::lighted;
+pub use plan::moves_to;
 pub use rearrange::rearranged;
+pub use rearrange::stands_right;
 use survey::Survey;
 
 // A plan: which places get what, the place taken, the moves and the looks.

@@ -17,7 +17,7 @@ use moves::Moves;
 use slots::Slot;
 
 // The record of a move: number, old place, new place.
-fn moves_to(standing: Standing, place: usize) -> Move
+pub fn moves_to(standing: Standing, place: usize) -> Move
     requires { ⌜ (standing .place < placeCount) × (place < placeCount) ⌝ }
     ensures { λ r. ⌜ r ≡ movesTo standing place ⌝ }
 {

@@ -16,7 +16,7 @@ use limits::PLACE_COUNT;
 use pairs::Found;
 
 // Whether x stands in a direction in which the pair a and b can share.
-fn stands_right(nodes: u8, a: Standing, b: Standing, x: Standing) -> bool
+pub fn stands_right(nodes: u8, a: Standing, b: Standing, x: Standing) -> bool
     requires { ⌜ 0 < nodes ⌝ }
     ensures { λ r. ⌜ r ≡ standsRight nodes a b x ⌝ }
 {

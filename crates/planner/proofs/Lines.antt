@@ -8,10 +8,17 @@ use lib.Dec.{leb}
 use lib.ListN.{length, take, drop, length-take, length-drop}
 use lib.Seq.{take-at, length-take-le}
 use borrow.Author.Tests.{leb-true, le-ltb}
-use Rattle.limits.specs.Limits.{mostNodes}
+use Rattle.limits.specs.Limits.{mostNodes, tidyRecords}
+use Rattle.moves.specs.MoveList.{recorded}
 use Rattle.buffer.specs.Put.{Printed}
+use Rattle.refusals.specs.declared.Verdict.the-variants.{Granted as granted}
+use Rattle.ring.specs.Table.{meetsRules}
+use Rattle.ring.specs.Tidying.{tidyingBy}
 use Rattle.ring.specs.declared.RingTable.{RingTable}
+use Rattle.ring.specs.declared.TidyDecision.{TidyDecision}
 use Rattle.ring.proofs.TableRules.{few-nodes}
+use Rattle.ring.proofs.Rounds.{tidy-long, few-moves, tidy-rules}
+use Rattle.print.specs.Answers.{moveLines}
 use Rattle.form.specs.Form.{formOf, longestForm}
 use Rattle.load.specs.Load.{loads}
 use Rattle.load.specs.Report.{reportOf, bufferAfter}
@@ -20,17 +27,42 @@ use Rattle.commands.specs.declared.Command.{Command}
 use Rattle.commands.specs.declared.Command.the-variants.{Read, Desk as desk}
 use Rattle.commands.specs.Command.{longestCommand, commandOf}
 use Rattle.inventory.specs.Lines.{formLine, formRoom, loadLine, loadRoom, linkLine}
-use Rattle.desk.specs.Desk.{Outcome, HasRun}
+use Rattle.desk.specs.Desk.{Outcome, HasRun, deskWith}
 use Rattle.desk.specs.declared.Desk.{Desk}
 use Rattle.desk.specs.declared.Ran.{Ran}
 use Rattle.answer_room.specs.Line.{CanAnswer, LineAnswered}
 use Rattle.saved_forms.specs.Saved.{FormIn}
+use Rattle.tidy_lines.specs.Lines.{tidyLine, tidyRoom}
 use Rattle.planner.specs.Asks.{Asks}
+use Rattle.planner.specs.Tidy.{tidying, HasTidied}
 
 -- a question of a desk that has a table
 module _ (d : Desk) (l : List ℕ) (at : ℕ) (r : CanAnswer d l at) where
   pub asks : d .ready ≡ true → Asks (d .table) l at
   asks h = record { rules = r .rules h; room = r .room }
+
+-- a desk without a table has none
+pub unready : (d : Desk) → d .ready ≡ false → d .ready ≡ true → ⊥
+unready d h k = let z : _≡_ {A = ℕ} 0 1 = cc in omega arith
+
+-- a tidying of its table
+module _ (d : Desk) (l : List ℕ) (at : ℕ) (q : CanAnswer d l at) (ready : d .ready ≡ true) where
+  pub tidy-valid : meetsRules (d .table) ≡ true
+  tidy-valid = q .rules ready
+
+  module _ (a : TidyDecision) (e : a ≡ tidying (d .table)) where
+    pub tidy-few : a .moves .count ≤ tidyRecords
+    tidy-few = rw (e, ← tidy-long (d .table) tidyRecords tidy-valid (tidyingBy (d .table) granted) (omega arith) refl) (few-moves (d .table) tidy-valid)
+
+    module _ (l′ : List ℕ) (next : ℕ) (p : Printed tidyRoom l at (tidyLine (a .tidied .answer) ++ moveLines (recorded (a .moves))) l′ next) where
+      pub tidy-answered : LineAnswered l at l′ (record { desk = deskWith (a .tidied .table); next = next })
+      tidy-answered =
+          record { rules = λ h. rw e (tidy-rules (d .table) tidy-valid tidyRecords); some = record { text = _; put = p .put }; short = omega (arith, p .short) }
+
+      pub tidy-tidied : HasTidied (d .table) l at l′ (record { desk = deskWith (a .tidied .table); next = next })
+      tidy-tidied = record { lines = rw (← e) p; desk = rw e }
+
+pub ruleset tidied = (unready, tidy-valid, tidy-few, tidy-answered, tidy-tidied)
 
 -- a line that the desk ran
 pub run-answered : (o : Outcome) (l : List ℕ) (at : ℕ) (l′ : List ℕ) (r : Ran) → HasRun o l at l′ r → LineAnswered l at l′ r

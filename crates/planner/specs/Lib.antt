@@ -1,2 +1,3 @@
--- What a question of the table asks for.
+-- What a question of the table asks for, and what a tidying makes of it.
 pub mod Asks
+pub mod Tidy

@@ -2,6 +2,7 @@
 mod ask;
 
 ghost use mathlib.Core.Path.{_≡_};
+ghost use mathlib.Core.Bool.{true};
 ghost use Prim.Native.Nat.{_≤_};
 ghost use lib.ListN.{length};
 ghost use Rattle.commands.specs.Command.{longestCommand, commandOf};
@@ -10,12 +11,14 @@ ghost use Rattle.buffer.specs.Appended.{Appended};
 ghost use Rattle.answer_room.specs.Room.{lineRoom};
 ghost use Rattle.answer_room.specs.Line.{CanAnswer, LineAnswered};
 ghost use Rattle.planner.specs.Asks.{Asks};
+ghost use Rattle.planner.specs.Tidy.{HasTidied};
 use commands::Command;
 use commands::MOST_READ;
 use desk::Desk;
 use desk::Ran;
 use grid::GridPlan;
 use hex::Digits;
+use limits::TIDY_RECORDS;
 use ring::RingTable;
 
 // Prints `line refused`, and nothing changes.
@@ -91,6 +94,26 @@ fn run_wavelength(desk: Desk, plan: GridPlan, frequency: u32, out: &mut [u8], at
     Ran { desk, next }
 }
 
+// `tidy`, with 128 records lent, which is refused where there is no table.
+fn run_tidy(desk: Desk, out: &mut [u8], at: usize) -> Ran
+    requires { ⌜ CanAnswer desk (now out) at ⌝ }
+    ensures answer { λ r. ⌜ LineAnswered (now (out .entry)) at (now (out .exit)) r ⌝ }
+    ensures tidies { λ r. ⌜ (desk .ready ≡ true → HasTidied (desk .table) (now (out .entry)) at (now (out .exit)) r) ⌝ }
+{
+    if !desk.ready {
+        return refuse(desk, out, at);
+    }
+    let decision = desk.table.decide_tidy_valid(TIDY_RECORDS);
+    let tidied = decision.tidied;
+    let answer = tidied.answer;
+    let next = tidy_lines::put_tidying(out, at, answer, decision.moves);
+    let table = tidied.table;
+    Ran {
+        desk: Desk { ready: true, table },
+        next,
+    }
+}
+
 // Runs a line without its line end, and writes the answer at a position of the lent bytes. One that is no command is run as the script
 // program runs it.
 pub fn run_line(desk: Desk, line: &[u8], out: &mut [u8], at: usize) -> Ran
@@ -112,6 +135,7 @@ pub fn run_line(desk: Desk, line: &[u8], out: &mut [u8], at: usize) -> Ran
             start,
             frequency,
         } => run_wavelength(desk, GridPlan { spacing, start }, frequency, out, at),
+        Command::Tidy => run_tidy(desk, out, at),
         Command::Desk => desk::run_line(desk, line, out, at),
         _ => run_question(desk, command, line, out, at),
     }

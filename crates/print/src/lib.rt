@@ -62,7 +62,7 @@ pub fn put_refusal(out: &mut [u8], at: usize, words: &[u8], refusal: Refusal) ->
 }
 
 // The line of a move.
-fn put_move(out: &mut [u8], at: usize, m: Move) -> usize
+pub fn put_move(out: &mut [u8], at: usize, m: Move) -> usize
     requires { ⌜ at + moveRoom ≤ length (now out) ⌝ }
     ensures { λ r. ⌜ Printed moveRoom (now (out .entry)) at (moveLine m) (now (out .exit)) r ⌝ }
 {

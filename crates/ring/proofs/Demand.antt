@@ -11,13 +11,14 @@ use Rattle.basis.specs.Count.{weigh, All}
 use Rattle.lightpath.specs.declared.Circuit.{Circuit}
 use Rattle.lightpath.specs.declared.Place.{Place}
 use Rattle.channels.specs.Channels.{circuits, circuitOf}
-use Rattle.channels.proofs.Numbers.{one-place, holds-each}
+use Rattle.channels.proofs.Numbers.{one-place}
 use Rattle.moves.specs.Records.{movesOf, listed}
 use Rattle.moves.specs.Lent.{written}
 use Rattle.moves.specs.declared.Move.{Move}
 use Rattle.moves.proofs.Listed.{listed-moves}
 use Rattle.moves.proofs.Written.{length-written, take-written, drop-written, written-none}
-use Rattle.rules.proofs.Rules.{Rules, rules-hold, limits-hold}
+use Rattle.rules.proofs.Rules.{Rules, rules-hold}
+use Rattle.steps.proofs.Chain.{kept-found}
 use Rattle.refusals.specs.Refusal.{numberOf, judged}
 use Rattle.refusals.specs.declared.Refusal.{Refusal}
 use Rattle.refusals.specs.declared.Verdict.{Verdict}
@@ -47,9 +48,7 @@ module _ (t : RingTable) (c : Circuit) (n : ℕ) (rules : meetsRules t ≡ true)
 
     -- each circuit is there with all its fields
     whole : All (λ x. circuitOf (after t c) (x .number) ≡ x) (c ∷ circuits (t .channels))
-    whole =
-        holds-each (after t c) (again .numbers) (limits-hold (t .nodes) (t .ports) (after t c) again .long) (c ∷ circuits (t .channels))
-        exact
+    whole = kept-found (t .nodes) (t .ports) (t .channels) (c ∷ []) (after t c) (planned t c .moves) (serves t c n rules g .kept)
 
     -- the moves by value are the plan's
     pub moves : listed (movesOf (planned t c .moves)) ≡ planned t c .moves

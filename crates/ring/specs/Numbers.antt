@@ -1,5 +1,6 @@
 -- 01, "By whom it can be caused" and "Order": the reasons of each call's refusal, as 01 numbers and orders them, and the values that it
--- answers where there is none. Assumes nothing. What `make`, `open`, `decide` and `close` promise.
+-- answers where there is none. Assumes nothing. What `make`, `open`, `decide`, `close`, `tidy`, `decide_tidy` and those of a table known to
+-- meet the rules promise.
 use Prim.Native.Nat.{ℕ}
 use mathlib.Core.Bool.{_||_, not}
 use mathlib.Core.List.{List, [], _∷_}
@@ -14,6 +15,7 @@ use Rattle.steps.specs.Steps.{planOf}
 use Rattle.refusals.specs.Answer.{Reason, _when_}
 use Rattle.ring.specs.Table.{RingTable, meetsRules}
 use Rattle.ring.specs.Demand3.{reasons}
+use Rattle.ring.specs.Tidying.{roundsOf}
 
 -- making: "N outside 3 to 64, or a port list not N long"; "some k_i above 64"; "K above 192"
 abbrev pub makeReasons : ℕ → List ℕ → List Reason
@@ -34,3 +36,11 @@ openReasons t c n = (22 when not (meetsRules t)) ∷ reasons t c n
 -- "place taken, number of moves, looks", as the steps have them
 abbrev pub openValues : RingTable → Circuit → List ℕ
 openValues t c = let plan = planOf (t .nodes) (limitOf (t .ports)) (t .channels) c in plan .taken ∷ length (plan .moves) ∷ plan .looks ∷ []
+
+-- tidying, with a lent list of n records (02, E5): "the table breaks a ring rule"; "the lent list needs 128 records"
+abbrev pub tidyReasons : RingTable → ℕ → List Reason
+tidyReasons t n = (22 when not (meetsRules t)) ∷ (20 when ltb n 128) ∷ []
+
+-- "the number of rounds and of moves"
+abbrev pub tidyValues : RingTable → List ℕ
+tidyValues t = roundsOf t .rounds ∷ length (roundsOf t .moves) ∷ []

@@ -1,10 +1,11 @@
-// The ring table and what a host calls on it: making a ring, opening and closing circuits. A call on a table takes it whole and
+// The ring table and what a host calls on it: making a ring, opening and closing circuits, tidying. A call on a table takes it whole and
 // gives it back whole beside its answer; a refusal gives it back as it was.
 
 mod close;
 mod decide;
 mod lend;
 mod make;
+mod tidy;
 
 ghost use mathlib.Core.Path.{_≡_};
 ghost use Rattle.ports.specs.Ports.{wavelengths};
@@ -13,6 +14,7 @@ use channels::Channel;
 use lightpath::Place;
 use limits::PLACE_COUNT;
 use limits::PORT_FIELDS;
+use moves::MoveList;
 use moves::Moves;
 use refusals::Refusal;
 use refusals::Verdict;
@@ -47,6 +49,24 @@ pub struct Decision {
 pub struct Answered {
     pub table: RingTable,
     pub verdict: Verdict,
+}
+
+// The answer to a tidying: the number of rounds and of moves; or the refusal.
+pub enum Tidying {
+    Done { rounds: u8, moves: u8 },
+    Refused(Refusal),
+}
+
+// The table after a tidying, beside the answer.
+pub struct Tidied {
+    pub table: RingTable,
+    pub answer: Tidying,
+}
+
+// A tidying decided by value, with the moves that go to the lent list.
+pub struct TidyDecision {
+    pub tidied: Tidied,
+    pub moves: MoveList,
 }
 
 impl RingTable {

@@ -36,15 +36,15 @@ Good N ks t c plan = PlanKeeps N ks t c (puts (plan .changes) t) (plan .taken) (
 one : (x : Circuit) → Inside (alone x) x
 one x = omega (arith, bit-eq (x .number) (x .number) refl)
 
-left : (a b : Circuit) → Inside (together a b) a
+pub left : (a b : Circuit) → Inside (together a b) a
 left a b = omega (arith, together-weighs (ofNumber (a .number)) a b, bit-eq (a .number) (a .number) refl)
 
-right : (a b : Circuit) → Inside (together a b) b
+pub right : (a b : Circuit) → Inside (together a b) b
 right a b = omega (arith, together-weighs (ofNumber (b .number)) a b, bit-eq (b .number) (b .number) refl)
 
 module _ (N : ℕ) (ks : List ℕ) (t : Channels) (rules : Rules N ks t) where
   -- a usable place is a place of the table
-  inside : (p : ℕ) → p < limitOf ks → p < length t
+  pub inside : (p : ℕ) → p < limitOf ks → p < length t
   inside p l = let k = limits-hold N ks t rules in omega arith
 
   -- a nonsharing circuit joins nodes of the ring
@@ -56,7 +56,7 @@ module _ (N : ℕ) (ks : List ℕ) (t : Channels) (rules : Rules N ks t) where
   fits-alone p m s = alone-fits N p (m .circuit) (ends m s)
 
   -- it is the circuit of its number
-  known : (m : Standing) → Stands (limitOf ks) t m → Known t m
+  pub known : (m : Standing) → Stands (limitOf ks) t m → Known t m
   known m s = record {
     there = s .there;
     within = inside (m .place) (s .low);
@@ -70,7 +70,7 @@ module _ (N : ℕ) (ks : List ℕ) (t : Channels) (rules : Rules N ks t) where
       ∙ rw e (old-place N ks t rules (b .place) (b .circuit) (has N ks t rules b sb)))
 
   -- two fit together where they can share
-  olds-fit : (p : ℕ) (a b : Standing) → Stands (limitOf ks) t a → Stands (limitOf ks) t b → a .place ≢ b .place
+  pub olds-fit : (p : ℕ) (a b : Standing) → Stands (limitOf ks) t a → Stands (limitOf ks) t b → a .place ≢ b .place
       → canShare N (directionOf p) (a .circuit) (b .circuit) ≡ true → fits N p (together (a .circuit) (b .circuit)) ≡ true
   olds-fit p a b sa sb n can = together-fits N p (a .circuit) (b .circuit) (ends a sa) (ends b sb) can (two-numbers a b sa sb n)
 

@@ -1,5 +1,5 @@
 -- The laws of the steps: following the records, what sound changes keep, the five cases, the searches, the candidates, step 3's two
--- claims, the plan, a pair that can share both ways, looks; and closing.
+-- claims, the plan, a pair that can share both ways, looks; closing; and one operation after another, what is kept and the records of both.
 pub mod Following
 pub mod Sound
 pub mod Five
@@ -10,3 +10,5 @@ pub mod Steps
 pub mod BothWays
 pub mod Looks
 pub mod Closing
+pub mod Chain
+pub mod Records

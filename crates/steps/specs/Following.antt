@@ -1,5 +1,5 @@
 -- 01, "Opening a circuit": what a host does with the records of the moves. "All listed circuits are taken down before any is set up."
--- Assumes nothing. What `RingTable::open`, `decide` and `decide_valid` promise.
+-- Assumes nothing. What `RingTable::open`, `decide` and `decide_valid` promise, and `tidy`, `decide_tidy` and `decide_tidy_valid`.
 use Prim.Native.Nat.{ℕ}
 use mathlib.Core.List.{List, [], _∷_}
 use Rattle.lightpath.specs.declared.Circuit.{Circuit}
@@ -29,6 +29,10 @@ abbrev pub allSetUp : Channels → List Move → Channels → Channels
 allSetUp t [] u = u
 allSetUp t (m ∷ ms) u = allSetUp t ms (setUp (circuitOf t (m .number)) (m .to .0) u)
 
+-- the host carries out the records ms: the listed circuits are taken down, and then each is set up at its new place
+abbrev pub relocated : Channels → List Move → Channels
+relocated t ms = allSetUp t ms (takenDown ms t)
+
 -- the host follows the records ms of an opening of c at place p
 unfoldable pub followed : Channels → List Move → Circuit → ℕ → Channels
-followed t ms c p = setUp c p (allSetUp t ms (takenDown ms t))
+followed t ms c p = setUp c p (relocated t ms)

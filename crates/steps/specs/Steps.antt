@@ -1,5 +1,5 @@
 -- 01, "Opening a circuit": steps 1 to 3, on the places t below the limit m of a ring of N nodes. Assumes nothing.
--- What `RingTable::open`, `decide` and `decide_valid` promise.
+-- What `RingTable::open`, `decide` and `decide_valid` promise; what a tidying says of directions and places it has from here.
 use Prim.Native.Nat.{ℕ, suc}
 use mathlib.Core.Bool.{Bool, _&&_}
 use mathlib.Core.List.{List, [], _∷_, _++_}

@@ -95,6 +95,41 @@ pub fn opening_107() -> Step {
     )
 }
 
+pub const MONTH_PORTS: [u8; 8] = [2, 1, 2, 1, 2, 1, 2, 1];
+
+/// A ring after a busy month: every place lit, no circuit with another.
+pub const BUSY_MONTH: [Row; 8] = [
+    (201, 6, 2, 0),
+    (202, 5, 1, 1),
+    (203, 5, 4, 2),
+    (211, 7, 3, 3),
+    (205, 8, 6, 4),
+    (206, 4, 3, 5),
+    (209, 1, 5, 6),
+    (210, 3, 8, 7),
+];
+
+pub const TIDIED: [Row; 8] = [
+    (202, 5, 1, 1),
+    (209, 1, 5, 1),
+    (210, 3, 8, 3),
+    (211, 7, 3, 3),
+    (203, 5, 4, 5),
+    (206, 4, 3, 5),
+    (201, 6, 2, 7),
+    (205, 8, 6, 7),
+];
+
+pub fn tidying() -> Step {
+    step(
+        "tidy",
+        "tidy rounds 4 moves 5\nmove 209 from 6 to 1\nmove 203 from 2 to 5\nmove 210 from 7 to 3\n\
+         move 201 from 0 to 7\nmove 205 from 4 to 7",
+        Some(table(&MONTH_PORTS, &BUSY_MONTH)),
+        Some(table(&MONTH_PORTS, &TIDIED)),
+    )
+}
+
 /// The most there can be: 64 nodes, 192 circuits of the widest numbers, every port in use. Each
 /// clockwise place has a circuit to the next node and its return.
 pub fn largest() -> (Vec<u8>, Vec<Row>) {

@@ -14,9 +14,13 @@ const USAGE: &str = "usage: generate --seed S --lines N [--kind KIND] [--plan] [
   --plan      lines of every kind that the planning program takes
   --stats     print how often each step and refusal comes, in place of the script
        generate --form --seed S --nodes N --circuits C
+       generate --form --seed S [--nodes N] --crowded
+       generate --form --seed S --dear
   --form      the saved form of a ring, in place of a script
-  --nodes     the nodes of the ring, 3 to 64
-  --circuits  the circuits opened on it, 1 to 192";
+  --nodes     the nodes of the ring, 3 to 64 (64 for --crowded if not given)
+  --circuits  the circuits opened on it, 1 to 192
+  --crowded   a circuit alone at each of 128 places, so that there is much to tidy
+  --dear      64 nodes, as crowded, and tidying passes many pairs over in every round";
 
 fn main() -> ExitCode {
     match run() {
@@ -54,10 +58,26 @@ fn script(words: Vec<String>) -> Result<Vec<u8>, String> {
 
 /// The saved form of a ring with circuits.
 fn form(words: Vec<String>) -> Result<Vec<u8>, String> {
-    let arguments = Arguments::read(words, &["--seed", "--nodes", "--circuits"], &["--form"])?;
+    let flags = ["--form", "--crowded", "--dear"];
+    let arguments = Arguments::read(words, &["--seed", "--nodes", "--circuits"], &flags)?;
     let seed = arguments.needed_number("--seed")?;
-    let nodes_limits = u64::from(NODES_LEAST)..=u64::from(NODES_MOST);
-    let nodes = arguments.needed_number_within("--nodes", nodes_limits)?;
-    let circuits = arguments.needed_number_within("--circuits", 1..=u64::from(RING_PORTS_MOST))?;
-    Ok(generator::form(nodes as u8, circuits as usize, seed))
+    match ["--circuits", "--crowded", "--dear"].map(|name| arguments.has(name)) {
+        [true, false, false] => {
+            let limits = 1..=u64::from(RING_PORTS_MOST);
+            let circuits = arguments.needed_number_within("--circuits", limits)?;
+            Ok(generator::form(nodes(&arguments)?, circuits as usize, seed))
+        }
+        [false, true, false] if !arguments.has("--nodes") => {
+            Ok(generator::crowded_form(NODES_MOST, seed))
+        }
+        [false, true, false] => Ok(generator::crowded_form(nodes(&arguments)?, seed)),
+        [false, false, true] if !arguments.has("--nodes") => Ok(generator::dear_form(seed)),
+        [false, false, true] => Err("--dear takes no --nodes".to_string()),
+        _ => Err("one of --circuits, --crowded and --dear is needed".to_string()),
+    }
+}
+
+fn nodes(arguments: &Arguments) -> Result<u8, String> {
+    let limits = u64::from(NODES_LEAST)..=u64::from(NODES_MOST);
+    Ok(arguments.needed_number_within("--nodes", limits)? as u8)
 }

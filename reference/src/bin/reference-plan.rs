@@ -6,7 +6,7 @@ use std::process::ExitCode;
 use ring::plan::{self, Planner};
 
 const USAGE: &str = "usage: reference-plan [--check] < script
-  --check   check the ring rules at every opening and closing";
+  --check   check the ring rules at every opening, closing and tidying";
 
 fn main() -> ExitCode {
     let arguments: Vec<String> = std::env::args().skip(1).collect();

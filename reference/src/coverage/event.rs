@@ -3,6 +3,7 @@
 use std::fmt;
 
 use super::grid::{self, GridEvent, Way};
+use super::tidying::{self, TidyingEvent};
 use crate::form::Fault;
 use crate::place::Direction::{self, Clockwise, Counterclockwise};
 use crate::refusal::Refusal;
@@ -107,6 +108,8 @@ pub enum Event {
     Exactly8192Good,
     /// What a line on a frequency plan reached.
     Grid(Way, GridEvent),
+    /// What a tidying reached.
+    Tidying(TidyingEvent),
 }
 
 use Event::*;
@@ -162,8 +165,9 @@ pub const SCRIPT_EVENTS: [Event; 47] = [
     LeadingZeroGood,
 ];
 
-/// Every event that the other lines of the planning program can show, but those on frequency plans.
-pub const PLAN_EVENTS: [Event; 82] = [
+/// Every event that the other lines of the planning program can show, but those on frequency plans
+/// and of tidyings.
+pub const PLAN_EVENTS: [Event; 83] = [
     Read,
     ReadBeforeRing,
     ReadReplaced,
@@ -241,6 +245,7 @@ pub const PLAN_EVENTS: [Event; 82] = [
     RefusedBeforeTable("load"),
     RefusedBeforeTable("link"),
     RefusedBeforeTable("circuits"),
+    RefusedBeforeTable("tidy"),
     RefusedOddDigits,
     RefusedCapitalDigit,
     RefusedNoPath,
@@ -354,11 +359,12 @@ impl fmt::Display for Event {
             RefusedOver8192 => "line refused: over 8,192 bytes",
             Exactly8192Good => "good line of exactly 8,192 bytes",
             Grid(way, event) => return grid::write(f, *way, *event),
+            Tidying(event) => return tidying::write(f, *event),
         })
     }
 }
 
-fn word(direction: Direction) -> &'static str {
+pub(super) fn word(direction: Direction) -> &'static str {
     match direction {
         Clockwise => "clockwise",
         Counterclockwise => "counterclockwise",

@@ -113,14 +113,14 @@ fn events_of(way: Way, own_refusals: &[GridEvent]) -> Vec<Event> {
 
 impl Coverage {
     /// Counts what a well-formed line on a frequency plan reached.
-    pub(super) fn saw_grid(&mut self, line: &[u8], before: Before) {
+    pub(super) fn saw_grid(&mut self, line: &[u8], before: &Before) {
         self.saw_numbers(line);
         let (way, mut events) = match parse(line) {
             Some(Command::Frequency { plan, wavelength }) => (Way::There, there(plan, wavelength)),
             Some(Command::Wavelength { plan, frequency }) => (Way::Back, back(plan, frequency)),
             _ => unreachable!("the line is on a frequency plan"),
         };
-        if !before.had_table {
+        if !before.had_table() {
             events.push(BeforeTable);
         }
         if has_minus_zero(line) {

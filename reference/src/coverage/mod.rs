@@ -5,6 +5,7 @@ mod grid;
 mod load;
 mod plan;
 mod script;
+mod tidying;
 
 use std::collections::{BTreeMap, BTreeSet};
 use std::fmt;
@@ -14,15 +15,19 @@ use crate::table::Table;
 
 pub use event::{Event, PLAN_EVENTS, SCRIPT_EVENTS};
 pub use grid::{grid_events, GridEvent, LineFault, Off, Way};
+pub use tidying::{TidyingEvent, TIDYING_EVENTS};
 
 #[derive(Clone, PartialEq, Eq, Debug)]
 pub struct Coverage {
     program: Program,
     pub lines: u64,
     pub most_looks: u32,
+    pub most_rounds: usize,
     counts: BTreeMap<Event, u64>,
-    /// The numbers of circuits with accounts that openings have moved on the present table.
+    /// The numbers of circuits with accounts that were moved on the present table.
     moved_with_account: BTreeSet<u32>,
+    /// Whether a tidying has joined circuits on the present table.
+    is_tidied: bool,
 }
 
 impl Coverage {
@@ -31,8 +36,10 @@ impl Coverage {
             program,
             lines: 0,
             most_looks: 0,
+            most_rounds: 0,
             counts: BTreeMap::new(),
             moved_with_account: BTreeSet::new(),
+            is_tidied: false,
         }
     }
 
@@ -44,7 +51,9 @@ impl Coverage {
     fn events(&self) -> Vec<Event> {
         match self.program {
             Program::Script => SCRIPT_EVENTS.to_vec(),
-            Program::Plan => [&SCRIPT_EVENTS[..], &PLAN_EVENTS, &grid_events()].concat(),
+            Program::Plan => {
+                [&SCRIPT_EVENTS[..], &PLAN_EVENTS, &TIDYING_EVENTS, &grid_events()].concat()
+            }
         }
     }
 
@@ -56,9 +65,16 @@ impl Coverage {
     pub fn add(&mut self, other: &Coverage) {
         self.lines += other.lines;
         self.most_looks = self.most_looks.max(other.most_looks);
+        self.most_rounds = self.most_rounds.max(other.most_rounds);
         for (&event, count) in &other.counts {
             *self.counts.entry(event).or_default() += count;
         }
+    }
+
+    /// Nothing has been moved yet on the table that is in force now.
+    fn saw_new_table(&mut self) {
+        self.moved_with_account.clear();
+        self.is_tidied = false;
     }
 
     fn saw(&mut self, event: Event) {
@@ -77,20 +93,29 @@ impl fmt::Display for Coverage {
         for event in self.events() {
             writeln!(f, "{:>10}  {event}", self.count(event))?;
         }
+        if self.program == Program::Plan {
+            writeln!(f, "{:>10}  most rounds of one tidying", self.most_rounds)?;
+        }
         writeln!(f, "{:>10}  most looks of one opening", self.most_looks)
     }
 }
 
-/// What has to be known of the table before a line, to tell what the line reached.
-#[derive(Clone, Copy)]
+/// The table before a line, by which it is told what the line reached.
 struct Before {
-    had_table: bool,
-    shared_places: usize,
+    table: Option<Table>,
 }
 
 impl Before {
     fn of(table: Option<&Table>) -> Before {
-        Before { had_table: table.is_some(), shared_places: table.map_or(0, shared_places) }
+        Before { table: table.cloned() }
+    }
+
+    fn had_table(&self) -> bool {
+        self.table.is_some()
+    }
+
+    fn shared_places(&self) -> usize {
+        self.table.as_ref().map_or(0, shared_places)
     }
 }
 

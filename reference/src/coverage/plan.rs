@@ -4,6 +4,7 @@ use std::collections::BTreeSet;
 
 use super::grid::sort_of_odd_grid;
 use super::script::{narrow, sort_of_odd_account, sort_of_odd_bytes};
+use super::tidying::sort_of_odd_tidying;
 use super::Event::*;
 use super::{Before, Coverage, Event};
 use crate::circuit::Circuit;
@@ -25,9 +26,9 @@ impl Coverage {
         match &answer {
             Answer::Script(script::Answer::LineRefused) => self.saw(sort_of_refused(line)),
             Answer::Script(script_answer) => {
-                self.saw_script_answer(line, script_answer, before, planner.table());
+                self.saw_script_answer(line, script_answer, &before, planner.table());
             }
-            _ => self.saw_plan_answer(line, &answer, before, planner.table()),
+            _ => self.saw_plan_answer(line, &answer, &before, planner.table()),
         }
         answer
     }
@@ -36,7 +37,7 @@ impl Coverage {
         &mut self,
         line: &[u8],
         answer: &Answer,
-        before: Before,
+        before: &Before,
         table: Option<&Table>,
     ) {
         self.saw_if(line.len() == LINE_MOST, Exactly8192Good);
@@ -47,6 +48,10 @@ impl Coverage {
             (Answer::Frequency(_) | Answer::FrequencyRefused(_), _)
             | (Answer::Wavelength(_) | Answer::WavelengthRefused(_), _) => {
                 self.saw_grid(line, before);
+            }
+            (Answer::Tidied { rounds, moves }, _) => {
+                let untidied = before.table.as_ref().expect("a tidying has a table");
+                self.saw_tidying(untidied, *rounds, moves);
             }
             (Answer::Written(_) | Answer::FileWritten { .. }, Some(table)) => {
                 self.saw(Written);
@@ -75,10 +80,10 @@ impl Coverage {
         self.saw_if(is_after_move, after_move);
     }
 
-    fn saw_read(&mut self, before: Before, table: &Table) {
-        self.moved_with_account.clear();
+    fn saw_read(&mut self, before: &Before, table: &Table) {
+        self.saw_new_table();
         self.saw(Read);
-        self.saw(if before.had_table { ReadReplaced } else { ReadBeforeRing });
+        self.saw(if before.had_table() { ReadReplaced } else { ReadBeforeRing });
         self.saw_if(table.circuits().any(|circuit| circuit.remark != 0), ReadWithRemark);
         let has_account = table.circuits().any(|circuit| circuit.account != 0);
         self.saw_if(has_account, ReadWithAccount);
@@ -141,6 +146,8 @@ fn sort_of_refused(line: &[u8]) -> Event {
         sort
     } else if let Some(sort) = sort_of_odd_grid(line) {
         sort
+    } else if let Some(sort) = sort_of_odd_tidying(line) {
+        sort
     } else if let Some(sort) = sort_of_odd_account(line) {
         sort
     } else if parse(&narrow(line)).is_some() {
@@ -157,6 +164,7 @@ fn sort_before_table(command: &Command) -> Event {
         Command::Read(_) | Command::Frequency { .. } | Command::Wavelength { .. } => {
             unreachable!("the line needs no table")
         }
+        Command::Tidy => RefusedBeforeTable("tidy"),
         Command::Ask(Question::Write | Question::WriteFile(_)) => RefusedBeforeTable("write"),
         Command::Ask(Question::Load) => RefusedBeforeTable("load"),
         Command::Ask(Question::Link { .. }) => RefusedBeforeTable("link"),

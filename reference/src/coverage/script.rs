@@ -2,7 +2,7 @@
 
 use super::Event::*;
 use super::{shared_places, Before, Coverage, Event};
-use crate::circuit::can_share;
+use crate::circuit::{can_share, Circuit};
 use crate::lines::words;
 use crate::opening::{Move, Opening};
 use crate::place::Place;
@@ -18,7 +18,7 @@ impl Coverage {
         if answer == Answer::LineRefused {
             self.saw(sort_of_refused(line));
         } else {
-            self.saw_script_answer(line, &answer, before, desk.table());
+            self.saw_script_answer(line, &answer, &before, desk.table());
         }
         answer
     }
@@ -28,25 +28,26 @@ impl Coverage {
         &mut self,
         line: &[u8],
         answer: &Answer,
-        before: Before,
+        before: &Before,
         table: Option<&Table>,
     ) {
         match *answer {
             Answer::Ring { .. } => {
-                self.moved_with_account.clear();
+                self.saw_new_table();
                 self.saw(RingAccepted);
-                self.saw_if(before.had_table, RingReplaced);
+                self.saw_if(before.had_table(), RingReplaced);
             }
             Answer::RingRefused(refusal) => self.saw(RingRefused(refusal.number())),
             Answer::Opened { number, opening, ref moves } => {
                 let table = table.expect("an opening has a table");
                 self.saw_opening(table, opening, &moves[..opening.moves]);
                 self.saw_accounts(table, number, &moves[..opening.moves]);
+                self.saw_opening_after_tidying(opening.moves);
             }
             Answer::OpenRefused { refusal, .. } => self.saw(OpenRefused(refusal.number())),
             Answer::Closed { .. } => {
                 self.saw(Closed);
-                let left_one_alone = table.map_or(0, shared_places) < before.shared_places;
+                let left_one_alone = table.map_or(0, shared_places) < before.shared_places();
                 self.saw_if(left_one_alone, ClosedOneOfTwo);
             }
             Answer::CloseRefused(refusal) => self.saw(CloseRefused(refusal.number())),
@@ -101,16 +102,21 @@ impl Coverage {
 
     /// The accounts of the circuit opened and of those moved.
     fn saw_accounts(&mut self, table: &Table, opened: u32, moves: &[Move]) {
-        let account = |number| {
-            let circuit = table.circuits().find(|circuit| circuit.number == number);
-            circuit.expect("an opening keeps every circuit").account
-        };
-        self.saw_if(account(opened) != 0, OpenedWithAccount);
-        self.saw_if(account(opened) == u32::MAX, OpenedWithWidestAccount);
-        let numbers = moves.iter().map(|moved| moved.number);
-        let with_account: Vec<u32> = numbers.filter(|&number| account(number) != 0).collect();
-        self.saw_if(!with_account.is_empty(), MovedWithAccount { moves: moves.len() });
-        self.moved_with_account.extend(with_account);
+        let opened = table.circuits().find(|circuit| circuit.number == opened);
+        let account = opened.expect("an opening sets its circuit up").account;
+        self.saw_if(account != 0, OpenedWithAccount);
+        self.saw_if(account == u32::MAX, OpenedWithWidestAccount);
+        self.saw_moved_accounts(table, moves, MovedWithAccount { moves: moves.len() });
+    }
+
+    /// Counts the event if one of the circuits moved has an account, and remembers which have.
+    pub(super) fn saw_moved_accounts(&mut self, table: &Table, moves: &[Move], event: Event) {
+        let is_moved =
+            |circuit: &Circuit| moves.iter().any(|record| record.number == circuit.number);
+        let with_account = table.circuits().filter(|circuit| circuit.account != 0);
+        let moved: Vec<u32> = with_account.filter(is_moved).map(|circuit| circuit.number).collect();
+        self.saw_if(!moved.is_empty(), event);
+        self.moved_with_account.extend(moved);
     }
 
     /// Counts a good line whose numbers have leading zeros.

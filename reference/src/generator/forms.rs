@@ -3,6 +3,7 @@
 use super::rings::Shape;
 use super::tables::{break_rule, scattered, without_accounts};
 use super::traffic::some_of;
+use super::untidy::untidy;
 use super::Generator;
 use crate::form::{
     form_of, ACCOUNT_BYTES, CIRCUIT_BYTES, FIRST_ACCOUNT, FIRST_REMARK, REMARK_BYTES,
@@ -28,6 +29,12 @@ impl Generator {
             (7, _) if !self.saved_forms.is_empty() => self.random.pick(&self.saved_forms).clone(),
             _ => form_of(&self.scattered_table()),
         }
+    }
+
+    /// The form of a table with much to tidy.
+    pub(super) fn untidy_form(&mut self) -> Vec<u8> {
+        let ports = Shape::choose(self.kind, &mut self.random).ports(&mut self.random);
+        form_of(&untidy(&ports, &mut self.random))
     }
 
     /// Remembers the form of the table in force, in place of an old one if there are enough.

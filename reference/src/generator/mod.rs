@@ -2,6 +2,7 @@
 //! The second controller runs along, so that the next line knows what is live.
 
 mod bad_lines;
+mod dear;
 mod forms;
 mod grid_lines;
 mod longest;
@@ -10,6 +11,7 @@ mod plan_lines;
 mod rings;
 mod tables;
 mod traffic;
+mod untidy;
 
 use crate::circuit::Circuit;
 use crate::form::form_of;
@@ -19,10 +21,12 @@ use crate::random::Random;
 use crate::script::{Request, LINE_MOST};
 use crate::table::Table;
 
+use dear::dear;
 use longest::Longest;
 use opened::opened;
 use rings::Shape;
 use traffic::Tide;
+use untidy::crowded;
 
 #[derive(Clone, Copy, PartialEq, Eq, Debug)]
 pub enum Kind {
@@ -90,6 +94,16 @@ pub fn form(nodes: u8, circuits: usize, seed: u64) -> Vec<u8> {
     form_of(&opened(nodes, circuits, &mut Random::new(seed)))
 }
 
+/// The saved form of a ring of 3 to 64 nodes with a circuit alone at each of its 128 places.
+pub fn crowded_form(nodes: u8, seed: u64) -> Vec<u8> {
+    form_of(&crowded(nodes, &mut Random::new(seed)))
+}
+
+/// The saved form of a ring whose tidying passes many pairs over in every round.
+pub fn dear_form(seed: u64) -> Vec<u8> {
+    form_of(&dear(&mut Random::new(seed)))
+}
+
 pub struct Generator {
     program: Program,
     kind: Kind,
@@ -97,6 +111,8 @@ pub struct Generator {
     planner: Planner,
     tide: Tide,
     lines_left_on_ring: usize,
+    /// Whether the next line tidies a table that was just read.
+    tidies_next: bool,
     saved_forms: Vec<Vec<u8>>,
     longest: Longest,
 }
@@ -110,6 +126,7 @@ impl Generator {
             planner: Planner::new(),
             tide: Tide::default(),
             lines_left_on_ring: 0,
+            tidies_next: false,
             saved_forms: Vec::new(),
             longest: Longest::default(),
         }
@@ -119,6 +136,7 @@ impl Generator {
     pub fn next_line(&mut self) -> Vec<u8> {
         let line = match self.program {
             _ if self.kind == Kind::Forms => self.longest.next_line(&mut self.random),
+            Program::Plan if std::mem::take(&mut self.tidies_next) => b"tidy".to_vec(),
             Program::Plan if self.random.percent(PLAN_LINES) => self.plan_line(),
             _ => self.script_line(),
         };
@@ -164,8 +182,19 @@ impl Generator {
                 self.lines_left_on_ring -= 1;
                 self.tide.request(table, &mut self.random)
             }
-            None if self.kind != Kind::Light && self.random.percent(60) => self.bad_request(),
+            None if self.kind != Kind::Light && self.random.percent(self.patience()) => {
+                self.bad_request()
+            }
             _ => self.new_ring(),
+        }
+    }
+
+    /// In how many of a hundred requests the first ring is waited for; more kinds of line are to
+    /// come before it in scripts for the planning program.
+    fn patience(&self) -> usize {
+        match self.program {
+            Program::Script => 60,
+            Program::Plan => 80,
         }
     }
 

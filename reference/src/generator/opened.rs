@@ -23,7 +23,7 @@ pub fn opened(nodes: u8, circuits: usize, random: &mut Random) -> Table {
 
 /// Circuits that use every port: tours of all nodes, and one of those that have a port more, of
 /// which there is never one alone, as no ring of 3 to 64 nodes leaves 1 of 192 ports over.
-fn circuit_for_each_port(nodes: u8, ring_ports: u32, random: &mut Random) -> Vec<Circuit> {
+pub fn circuit_for_each_port(nodes: u8, ring_ports: u32, random: &mut Random) -> Vec<Circuit> {
     let (tours, rest) = (ring_ports / u32::from(nodes), ring_ports % u32::from(nodes));
     let mut circuits = tour(rest as u8, random);
     for _ in 0..tours {

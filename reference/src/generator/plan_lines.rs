@@ -12,22 +12,32 @@ use crate::table::{Lightpath, Table};
 /// others are refused.
 const GRID_LINES_BEFORE_TABLE: usize = 20;
 
+/// How many of a hundred of the others then tidy.
+const TIDYINGS_BEFORE_TABLE: usize = 5;
+
 impl Generator {
     pub(super) fn plan_line(&mut self) -> Vec<u8> {
-        if self.planner.table().is_none() && self.random.percent(GRID_LINES_BEFORE_TABLE) {
-            return self.grid_line();
+        if self.planner.table().is_none() {
+            if self.random.percent(GRID_LINES_BEFORE_TABLE) {
+                return self.grid_line();
+            }
+            if self.random.percent(TIDYINGS_BEFORE_TABLE) {
+                return b"tidy".to_vec();
+            }
         }
         match self.random.below(100) {
             0..=27 => self.read_line(),
-            28..=39 => {
+            28..=38 => {
                 self.save_form();
                 b"write".to_vec()
             }
-            40..=48 => b"load".to_vec(),
-            49..=68 => self.link_line(),
-            69..=74 => b"circuits".to_vec(),
-            75 => self.random.pick(&["read @", "write @"]).as_bytes().to_vec(),
-            76..=87 => self.grid_line(),
+            39..=47 => b"load".to_vec(),
+            48..=65 => self.link_line(),
+            66..=71 => b"circuits".to_vec(),
+            72 => self.random.pick(&["read @", "write @"]).as_bytes().to_vec(),
+            73..=84 => self.grid_line(),
+            85 => b"tidy".to_vec(),
+            86 | 87 => self.read_to_tidy(),
             _ => self.bad_plan_line(),
         }
     }
@@ -36,6 +46,12 @@ impl Generator {
         let good = if self.planner.table().is_some() { 35 } else { 20 };
         let form = if self.random.percent(good) { self.good_form() } else { self.damaged_form() };
         read(&form)
+    }
+
+    /// The form of a table with much to tidy; the line after it tidies.
+    fn read_to_tidy(&mut self) -> Vec<u8> {
+        self.tidies_next = true;
+        read(&self.untidy_form())
     }
 
     fn link_line(&mut self) -> Vec<u8> {
@@ -131,12 +147,13 @@ impl Generator {
 
     /// A good line with one byte changed, which may still be good.
     fn with_byte_changed(&mut self) -> Vec<u8> {
-        let mut line = match self.random.below(6) {
+        let mut line = match self.random.below(7) {
             0 => b"load".to_vec(),
             1 => b"write".to_vec(),
             2 => b"circuits".to_vec(),
-            3 => read(&self.good_form()),
-            4 => grid_words(&mut self.random).join(" ").into_bytes(),
+            3 => b"tidy".to_vec(),
+            4 => read(&self.good_form()),
+            5 => grid_words(&mut self.random).join(" ").into_bytes(),
             _ => self.link_question(),
         };
         let at = self.random.below(line.len());
@@ -147,7 +164,6 @@ impl Generator {
     /// Lines that other releases may take.
     fn not_in_force(&mut self) -> Vec<u8> {
         let lines = [
-            "tidy",
             "from 1",
             "ends 1 1 2",
             "ports 1 1 1",
@@ -220,6 +236,17 @@ impl Generator {
             "link 1,0,0",
             "Link 1 0 0",
             "links 1 0 0",
+            "tidy ",
+            " tidy",
+            "tidy 0",
+            "tidy 1",
+            "tidy 128",
+            "tidy tidy",
+            "tidy @",
+            "Tidy",
+            "TIDY",
+            "tidying",
+            "tid",
         ];
         self.random.pick(&lines).as_bytes().to_vec()
     }

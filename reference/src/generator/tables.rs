@@ -28,7 +28,7 @@ pub fn scattered(ports: &[u8], random: &mut Random) -> Table {
 }
 
 /// One circuit more and a place for it: in so many of a hundred one where it shares.
-fn one_more(table: &Table, share: usize, random: &mut Random) -> Option<Lightpath> {
+pub fn one_more(table: &Table, share: usize, random: &mut Random) -> Option<Lightpath> {
     let mut ends = Ends::free(table)?;
     ends.add_returns(table.circuits());
     let (source, destination) = ends.draw(RETURNS, random);

@@ -2,9 +2,12 @@
 #![allow(dead_code)]
 
 use ring::circuit::Circuit;
+use ring::coverage::Coverage;
+use ring::form::{write, FORM_MOST};
 use ring::generator::{Generator, Kind};
 use ring::opening::{Move, Opening};
-use ring::plan::Planner;
+use ring::place::Place;
+use ring::plan::{hexadecimal, Planner};
 use ring::program::Program;
 use ring::refusal::Refusal;
 use ring::table::{Channel, Table};
@@ -21,15 +24,52 @@ pub fn ring(ports: &[u8]) -> Table {
 pub fn standing(ports: &[u8], circuits: &[(u8, Circuit)]) -> Table {
     let mut table = ring(ports);
     for &(place, circuit) in circuits {
-        let channel = &mut table.channels[usize::from(place)];
-        *channel = match *channel {
-            Channel::Unlit => Channel::One(circuit),
-            Channel::One(first) => Channel::Two(first, circuit),
-            Channel::Two(..) => panic!("three circuits at place {place}"),
-        };
+        let alone = table.channels[usize::from(place)].circuits().next();
+        assert!(alone.is_none_or(|first| first.number < circuit.number));
+        put(&mut table, Place(place), circuit);
     }
     assert!(table.meets_ring_rules());
     table
+}
+
+/// Sets the circuit up at the place, where at most one is.
+pub fn put(table: &mut Table, place: Place, circuit: Circuit) {
+    let channel = &mut table.channels[place.index()];
+    *channel = match *channel {
+        Channel::Unlit => Channel::One(circuit),
+        Channel::One(other) if other.number < circuit.number => Channel::Two(other, circuit),
+        Channel::One(other) => Channel::Two(circuit, other),
+        Channel::Two(..) => panic!("three circuits at {place:?}"),
+    };
+}
+
+pub fn record(number: u32, from: u8, to: u8) -> Move {
+    Move { number, from: Place(from), to: Place(to) }
+}
+
+/// What stands in a lent list where nothing was written.
+pub const UNWRITTEN: Move = Move { number: 999, from: Place(99), to: Place(98) };
+
+pub fn circuits_by_number(table: &Table) -> Vec<Circuit> {
+    let mut circuits: Vec<Circuit> = table.circuits().collect();
+    circuits.sort_by_key(|circuit| circuit.number);
+    circuits
+}
+
+/// The records name each circuit of the first table that has another place in the second once, with
+/// both places.
+pub fn check_moves(before: &Table, after: &Table, list: &[Move]) {
+    let place = |table: &Table, number| table.place_of(number).unwrap();
+    let mut moved: Vec<u32> = before.circuits().map(|circuit| circuit.number).collect();
+    moved.retain(|&number| place(before, number) != place(after, number));
+    let mut listed: Vec<u32> = list.iter().map(|record| record.number).collect();
+    moved.sort();
+    listed.sort();
+    assert_eq!(moved, listed);
+    for record in list {
+        assert_eq!(record.from, place(before, record.number));
+        assert_eq!(record.to, place(after, record.number));
+    }
 }
 
 /// The table on which document 01 opens 15: 12 and its return 14 both stand alone.
@@ -86,6 +126,23 @@ pub fn ring_with_return(lower: u8, higher: u8) -> (Table, Circuit) {
 /// Opens with a list of three records.
 pub fn open(table: &mut Table, circuit: Circuit) -> Result<Opening, Refusal> {
     table.open(circuit, &mut [Move::default(); 3])
+}
+
+/// The line that reads the table.
+pub fn read_line(table: &Table) -> String {
+    let mut form = [0; FORM_MOST];
+    let length = write(table, &mut form).unwrap();
+    format!("read {}", hexadecimal(&form[..length]))
+}
+
+/// What the planner's lines reach.
+pub fn coverage_of(lines: &[&str]) -> Coverage {
+    let mut coverage = Coverage::of(Program::Plan);
+    let mut planner = Planner::new();
+    for line in lines {
+        coverage.run_plan_line(&mut planner, line.as_bytes());
+    }
+    coverage
 }
 
 /// Tables as generated scripts leave them, one of every `step` lines.

@@ -85,8 +85,8 @@ at-end-requires-3 c κs = search (needs, lines)
 returns-7 : tie.Need-returns-7
 returns-7 c = search (needs, lines)
 
-parse-grid-line-requires : tie.Need-parse-grid-line-requires
-parse-grid-line-requires c κs = search (needs, lines)
+parse-change-line-requires : tie.Need-parse-change-line-requires
+parse-change-line-requires c κs = search (needs, lines)
 
 returns-8 : tie.Need-returns-8
 returns-8 c = search (needs, lines)
@@ -122,5 +122,5 @@ parse-command-spec =
     same-text-requires-6
     at-end-requires-3
     returns-7
-    parse-grid-line-requires
+    parse-change-line-requires
     returns-8)

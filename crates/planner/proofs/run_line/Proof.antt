@@ -54,6 +54,12 @@ run-wavelength-requires c κs = search needs
 enum-told : tie.Need-enum-told
 enum-told c = search needs
 
+run-tidy-requires : tie.Need-run-tidy-requires
+run-tidy-requires c κs = search needs
+
+enum-told-2 : tie.Need-enum-told-2
+enum-told-2 c = search needs
+
 run-line-requires : tie.Need-run-line-requires
 run-line-requires c κs = search needs
 
@@ -88,13 +94,19 @@ same-length-5 : tie.Need-same-length-5
 same-length-5 c = search needs
 
 returns-5 : tie.Need-returns-5
-returns-5 c = (search (needs, run-answered), λ k. search needs)
+returns-5 c = (search needs, λ k. absurd (search (needs, commands)))
 
 same-length-6 : tie.Need-same-length-6
 same-length-6 c = search needs
 
 returns-6 : tie.Need-returns-6
-returns-6 c = (search needs, λ k. absurd (not-question _ _ (c .before .before .before .before .before .parse-command .ensures) k (c .before .before .before .before .match .keys6)))
+returns-6 c = (search (needs, run-answered), λ k. search needs)
+
+same-length-7 : tie.Need-same-length-7
+same-length-7 c = search needs
+
+returns-7 : tie.Need-returns-7
+returns-7 c = (search needs, λ k. absurd (not-question _ _ (c .before .before .before .before .before .parse-command .ensures) k (c .before .before .before .before .match .keys7)))
 
 pub run-line-spec : {M : Type 1} → statement M
 run-line-spec =
@@ -116,6 +128,8 @@ run-line-spec =
     enum-known-command-4
     run-wavelength-requires
     enum-told
+    run-tidy-requires
+    enum-told-2
     run-line-requires
     run-question-requires
     same-length
@@ -129,4 +143,6 @@ run-line-spec =
     same-length-5
     returns-5
     same-length-6
-    returns-6)
+    returns-6
+    same-length-7
+    returns-7)

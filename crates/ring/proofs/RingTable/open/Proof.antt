@@ -47,7 +47,7 @@ stayed = (stay-none (λ _. T.the-row) yes, (stay-none (λ _. K.the-row) yes, (ga
 
 -- the types in its code
 abbrev the-types : L.Types
-the-types = record { first = T′.mir; second = K′.mir; kept = O′.mir; sent = U′.mir; decided = D.struct .name; lent = pointee (N.the-row .written); passed = pointee (N.the-row .written); here = N′.mir }
+the-types = record { kept = O′.mir; sent = U′.mir; decided = D.struct .name; lent = pointee (N.the-row .written); passed = pointee (N.the-row .written); here = N′.mir }
 
 module _ {M : Type 1} (𝓤 : URA M) (H : Heap 𝓤) (A : Atoms 𝓤) (mem : Memory → SProp 𝓤) (run : Routine → Fun 𝓤) where
   -- the contracts that the proof cites
@@ -166,7 +166,7 @@ module _ {M : Type 1} (𝓤 : URA M) (H : Heap 𝓤) (A : Atoms 𝓤) (W : Given
     hands is = L.called 𝓤 H A W C fm #moves·write-moves (Write 𝓤 H A mem run) known-write to-write Entry (λ v. mean 𝓤 H A (L.Handed 𝓤 (Post kept) v)) (goes-write is) (leaves is)
 
     walk : ent 𝓤 Entry (WpFn 𝓤 H C Λ code.function (vt ∷ vc ∷ s ∷ []) Post)
-    walk = L.walk 𝓤 H A W C Λ fm the-types #ring·decide #moves·write-moves vt vc b o (length ys) Entry Answer kept sent Post (room .0)
+    walk = L.walk-two 𝓤 H A W C Λ fm the-types #ring·decide #moves·write-moves b o (length ys) Entry Answer kept sent Post T′.mir K′.mir vt vc (room .0)
         (LL.lawful T.the-type T′.the-laws 𝓤 H A W .typed t _ is-t .0) (LL.lawful K.the-type K′.the-laws 𝓤 H A W .typed c _ is-c .0)
         (λ is. LL.lawful D.the-type D′.the-laws 𝓤 H A W .typed d _ is .0) (λ is. LL.lawful O.the-type O′.the-laws 𝓤 H A W .typed (d .opened) _ (LL.owed D.the-type D′.the-laws d _ is .0) .0)
         decides hands

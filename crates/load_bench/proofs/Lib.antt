@@ -1,2 +1,0 @@
--- The laws of the loads counted afresh.
-pub mod Counted

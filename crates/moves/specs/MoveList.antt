@@ -1,0 +1,24 @@
+-- 02, E5: the moves of a tidying by value, and what the list of move records that a host lends holds after it. Assumes nothing.
+-- What `RingTable::tidy`, `decide_tidy` and `decide_tidy_valid` promise.
+use Prim.Native.Nat.{_-_}
+use mathlib.Core.List.{List, _++_}
+use lib.Dec.{ltb}
+use lib.ListN.{length, take, drop, replicate}
+use Rattle.basis.specs.Choice.{pick}
+use Rattle.limits.specs.Limits.{tidyRecords}
+use Rattle.moves.specs.declared.Move.{Move}
+use Rattle.moves.specs.declared.MoveList.{MoveList}
+use Rattle.moves.specs.Records.{blank}
+
+-- the moves of a tidying, in their order: as many of the list as its count says, and all of them where it says more
+abbrev pub recorded : MoveList → List Move
+recorded a = take (a .count) (a .list)
+
+-- up to 128 moves by value: blank records stand after them
+abbrev pub listOf : List Move → MoveList
+listOf ms = record { count = length ms; list = ms ++ replicate (tidyRecords - length ms) blank }
+
+-- "records stand in the order of the moves, and those after them keep their values". A list of fewer than 128 records is left as it
+-- is: a tidying that is lent one is refused, and "lent memory is untouched"
+unfoldable pub writtenAll : List Move → MoveList → List Move
+writtenAll lent a = pick (ltb (length lent) tidyRecords) lent (recorded a ++ drop (length (recorded a)) lent)

@@ -1,0 +1,2 @@
+-- What is printed of a tidying.
+pub mod Lines
