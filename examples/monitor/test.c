@@ -13,12 +13,12 @@
 static const uint8_t script_form[] = {
     5, 1, 1, 1, 1, 1,
     0x0b, 0, 0, 0, 0, 0, 0, 0, 0, 0, 0, 0, 0, 0, 0, 0,
-    0, 0, 0, 0, 11, 1, 5,                     /* place 0: 11 from 1 to 5 */
-    2, 0, 0, 0, 12, 2, 3, 0, 0, 0, 14, 3, 2,  /* place 1: 12 from 2 to 3, 14 from 3 to 2 */
-    2, 0, 0, 0, 15, 5, 4, 0, 0, 0, 16, 4, 1   /* place 3: 15 from 5 to 4, 16 from 4 to 1 */
+    2, 0, 0, 0, 12, 2, 3, 0, 0, 0, 14, 3, 2,  /* place 0: 12 from 2 to 3, 14 from 3 to 2 */
+    2, 0, 0, 0, 11, 1, 5, 0, 0, 0, 16, 4, 1,  /* place 1: 11 from 1 to 5, 16 from 4 to 1 */
+    0, 0, 0, 0, 15, 5, 4                      /* place 3: 15 from 5 to 4 */
 };
 
-/* The same circuits as they stood where 12 and its return 14 could share clockwise only. */
+/* The same circuits as document 01 alone, without E1 and E6, places them. */
 static const uint8_t before_form[] = {
     5, 1, 1, 1, 1, 1,
     0x0f, 0, 0, 0, 0, 0, 0, 0, 0, 0, 0, 0, 0, 0, 0, 0,
@@ -75,11 +75,11 @@ static void rings(void)
 {
     const uint64_t none = RING_NONE;
     const uint64_t script[5][2][2] = {
-        { { 11, 12 }, { none, 16 } },
-        { { 11, 14 }, { none, 16 } },
-        { { 11, 12 }, { none, 16 } },
-        { { 11, 12 }, { none, 15 } },
-        { { none, 12 }, { none, none } }
+        { { 14, 16 }, { none, none } },
+        { { 12, 16 }, { none, none } },
+        { { 14, 16 }, { none, none } },
+        { { 14, none }, { none, 15 } },
+        { { 14, 11 }, { none, none } }
     };
     const uint64_t before[5][2][2] = {
         { { none, 16 }, { 15, none } },
@@ -169,11 +169,11 @@ static void forms(void)
     expect("remark of 0", damaged(edge_form, sizeof edge_form, 28, 0), RING_NONE + RING_BAD_FIELD);
     expect("first account of 0", damaged(billed_form, sizeof billed_form, 29, 0), RING_NONE + RING_BAD_FIELD);
     expect("second account of 0", damaged(billed_form, sizeof billed_form, 42, 0), RING_NONE + RING_BAD_FIELD);
-    expect("to itself", damaged(script_form, sizeof script_form, 28, 1), RING_NONE + RING_BROKEN_FORM);
+    expect("to itself", damaged(script_form, sizeof script_form, 28, 2), RING_NONE + RING_BROKEN_FORM);
     expect("off the ring", damaged(script_form, sizeof script_form, 28, 6), RING_NONE + RING_BROKEN_FORM);
-    expect("a number twice", damaged(script_form, sizeof script_form, 26, 14), RING_NONE + RING_BROKEN_FORM);
-    expect("higher number first", damaged(script_form, sizeof script_form, 33, 17), RING_NONE + RING_BROKEN_FORM);
-    expect("two that cannot share there", damaged(script_form, sizeof script_form, 6, 0x07), RING_NONE + RING_BROKEN_FORM);
+    expect("a number twice", damaged(script_form, sizeof script_form, 52, 14), RING_NONE + RING_BROKEN_FORM);
+    expect("higher number first", damaged(script_form, sizeof script_form, 26, 17), RING_NONE + RING_BROKEN_FORM);
+    expect("two that cannot share there", damaged(script_form, sizeof script_form, 6, 0x0d), RING_NONE + RING_BROKEN_FORM);
 }
 
 /* More than 192 ports: 4 nodes with 64, 64, 64 and 1. */

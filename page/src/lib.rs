@@ -18,4 +18,5 @@ pub mod ringplan;
 pub mod step;
 pub mod table;
 pub mod tidying;
+pub mod ways;
 pub mod words;

@@ -1,8 +1,11 @@
 //! An opening in words: where the new circuit went, and why others moved.
 
+use std::cmp::Ordering;
+
 use crate::pair::{links_in_words, meeting, Pair};
 use crate::step::{Move, Step};
-use crate::table::{Circuit, Table};
+use crate::table::{Circuit, Direction, Table};
+use crate::ways::{turned, Way};
 use crate::words::{capital, listed, ordinal, told_move, told_moves, Telling};
 
 pub fn tell(step: &Step, number: u32, moves: &[Move], looks: u32) -> Telling {
@@ -13,7 +16,7 @@ pub fn tell(step: &Step, number: u32, moves: &[Move], looks: u32) -> Telling {
     };
     if moves.is_empty() {
         return match after.partner(new) {
-            Some(partner) => joined(new, partner, after.nodes()),
+            Some(partner) => joined(new, partner, before),
             None => alone(new, before),
         };
     }
@@ -31,10 +34,21 @@ pub fn tell(step: &Step, number: u32, moves: &[Move], looks: u32) -> Telling {
     }
 }
 
-fn joined(new: &Circuit, partner: &Circuit, nodes: u8) -> Telling {
+fn joined(new: &Circuit, partner: &Circuit, before: &Table) -> Telling {
     let used = |circuit: &Circuit| {
-        format!("{} uses {}", circuit.number, links_in_words(&circuit.links(nodes)))
+        format!("{} uses {}", circuit.number, links_in_words(&circuit.links(before.nodes())))
     };
+    let mut reasons = vec![format!(
+        "{} stood alone at place {}, which runs {}. There {}, and {}: no link in common, so one \
+         wavelength carries both.",
+        partner.number,
+        new.place,
+        new.direction().word(),
+        used(partner),
+        used(new)
+    )];
+    reasons.extend(longer_to_share(new, before));
+    reasons.push("No other circuit had to move.".into());
     Telling {
         point: format!(
             "Circuit {} joined circuit {} at place {}: {}.",
@@ -43,41 +57,59 @@ fn joined(new: &Circuit, partner: &Circuit, nodes: u8) -> Telling {
             new.place,
             meeting(partner, new)
         ),
-        reasons: vec![
-            format!(
-                "{} stood alone at place {}, which runs {}. There {}, and {}: no link in common, \
-                 so one wavelength carries both.",
-                partner.number,
-                new.place,
-                new.direction().word(),
-                used(partner),
-                used(new)
-            ),
-            "No other circuit had to move.".into(),
-        ],
+        reasons,
         next: None,
     }
 }
 
-fn alone(new: &Circuit, before: &Table) -> Telling {
-    let free = match before.lowest_free_place() {
-        Some(lowest) if lowest == new.place => "the lowest free place",
-        _ => "a free place",
+/// That a circuit shares although that is its longer way round, and a place of the shorter one that
+/// it left free for it.
+fn longer_to_share(new: &Circuit, before: &Table) -> Option<String> {
+    let longer = Way::of(new, before.nodes()).longer()?;
+    let free = match before.lowest_free_place(new.direction().opposite()) {
+        Some(place) => format!(" It shares, although place {place} of its shorter way was free."),
+        None => String::new(),
     };
+    Some(format!("{} runs {longer}.{free}", new.number))
+}
+
+fn alone(new: &Circuit, before: &Table) -> Telling {
     let reason = if before.circuits.is_empty() {
         "The ring was empty.".into()
     } else {
         format!("No circuit that stood alone could share its place with {}.", new.number)
     };
     Telling {
-        point: format!(
-            "Circuit {} took {free}, place {}, {}.",
-            new.number,
-            new.place,
-            new.direction().word()
-        ),
+        point: format!("Circuit {} took {}.", new.number, free_place(new, before)),
         reasons: vec![reason, "No other circuit had to move.".into()],
         next: None,
+    }
+}
+
+/// The place that a circuit has alone. The ring before shows whether it was the lowest free one, and
+/// whether one of the other way round was free too.
+fn free_place(new: &Circuit, before: &Table) -> String {
+    let place = new.place;
+    let (to, fro) = (new.direction(), new.direction().opposite());
+    let lowest = before.lowest_free_place(to) == Some(place);
+    let only = before.lowest_free_place(fro).is_none();
+    let way = Way::of(new, before.nodes());
+    let (links, to, fro) = (way.told(), to.word(), fro.word());
+    match way.length() {
+        Ordering::Less if lowest => {
+            format!("the lowest free place of its shorter way round, place {place}, {to}: {links}")
+        }
+        Ordering::Equal if lowest && new.direction() == Direction::Clockwise => {
+            format!("the lowest free place {to}, place {place}: {links}")
+        }
+        Ordering::Equal if lowest && only => format!(
+            "the lowest free place {to}, place {place}: {links}, and no {fro} place was free"
+        ),
+        Ordering::Greater if lowest && only => format!(
+            "the lowest free place of its longer way round, place {place}, {to}: {links}, since no \
+             {fro} place was free"
+        ),
+        _ => format!("a free place, place {place}, {to}"),
     }
 }
 
@@ -105,7 +137,7 @@ struct Rearranged<'a> {
 impl Rearranged<'_> {
     fn tell(&self) -> Telling {
         let mut reasons = Vec::new();
-        if self.pair.before.lowest_free_place().is_none() {
+        if self.pair.before.is_full() {
             reasons.push(format!(
                 "No place was free: all {} had a circuit. Two circuits that stood alone had to \
                  share one place, so that one place became free.",
@@ -117,6 +149,7 @@ impl Rearranged<'_> {
         reasons.extend(self.room());
         reasons.push(self.pair_moved());
         reasons.push(self.placed());
+        reasons.extend(turned(self.pair.before, self.pair.after, self.moves));
         Telling { point: self.point(), reasons, next: None }
     }
 
@@ -125,10 +158,8 @@ impl Rearranged<'_> {
             [] => String::new(),
             ref others => format!(", {} made room", listed(others)),
         };
-        let full = match self.pair.before.lowest_free_place() {
-            None => "No place was free: circuits ",
-            Some(_) => "Circuits ",
-        };
+        let full =
+            if self.pair.before.is_full() { "No place was free: circuits " } else { "Circuits " };
         format!(
             "{full}{} and {} were put together{room}, {}. Circuit {} is at place {}.",
             self.pair.a.number,
@@ -196,6 +227,10 @@ impl Rearranged<'_> {
                 None => format!("took place {}", new.place),
             },
         };
-        format!("{} {at}. {moves} in all: {numbers}.", new.number)
+        let longer = match Way::of(new, self.pair.after.nodes()).longer() {
+            Some(longer) => format!(" It runs {longer}."),
+            None => String::new(),
+        };
+        format!("{} {at}.{longer} {moves} in all: {numbers}.", new.number)
     }
 }

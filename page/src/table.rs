@@ -154,8 +154,17 @@ impl Table {
         self.at(circuit.place).find(|other| other.number != circuit.number)
     }
 
-    pub fn lowest_free_place(&self) -> Option<u8> {
-        (0..self.places()).find(|&place| self.at(place).next().is_none())
+    /// Of the places that run in a direction.
+    pub fn lowest_free_place(&self, direction: Direction) -> Option<u8> {
+        self.free_places().find(|&place| Direction::of(place) == direction)
+    }
+
+    pub fn is_full(&self) -> bool {
+        self.free_places().next().is_none()
+    }
+
+    fn free_places(&self) -> impl Iterator<Item = u8> + '_ {
+        (0..self.places()).filter(|&place| self.at(place).next().is_none())
     }
 
     pub fn sent_from(&self, node: u8) -> Vec<&Circuit> {
@@ -242,7 +251,9 @@ mod tests {
         let Circuit { number, remark, account, .. } = table.circuits[1];
         assert_eq!((number, remark, account), (4294967295, 65535, 4294967294));
         assert_eq!(table.partner(&table.circuits[0]), Some(&table.circuits[1]));
-        assert_eq!(table.lowest_free_place(), Some(1));
+        let lowest = [Direction::Clockwise, Direction::Counterclockwise]
+            .map(|direction| table.lowest_free_place(direction));
+        assert_eq!((lowest, table.is_full()), ([None, Some(1)], false));
         assert_eq!(table.sent_from(2), [&table.circuits[1]]);
         assert_eq!(table.received_at(2), [&table.circuits[0]]);
     }

@@ -3,6 +3,7 @@
 use crate::pair::{meeting, Pair};
 use crate::step::{Move, Step};
 use crate::table::{Circuit, Direction, Table};
+use crate::ways::turned;
 use crate::words::{capital, count, listed, told_move, Telling};
 
 /// The rounds are told with their reasons where there are at most so many.
@@ -32,7 +33,11 @@ pub fn tell(step: &Step, rounds: usize, moves: &[Move]) -> Telling {
                 count(lit(before).len(), "place"),
                 lit(after).len()
             ),
-            reasons: round_by_round(&joined).into_iter().chain(dark(before, after)).collect(),
+            reasons: round_by_round(&joined)
+                .into_iter()
+                .chain(turned(before, after, moves).filter(|_| rounds <= EXPLAINED_MOST))
+                .chain(dark(before, after))
+                .collect(),
             next: None,
         },
         _ => Telling {

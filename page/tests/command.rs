@@ -38,7 +38,7 @@ fn help_and_what_is_not_understood() {
 fn what_cannot_be_read_or_run() {
     assert_fails(&run("true", &["/no/such/script"]), 1, "cannot be read");
     assert_fails(&run("/no/such/ringplan", &[SCRIPT]), 1, "ringplan cannot be started");
-    assert_fails(&run("true", &[SCRIPT]), 1, "ringplan ended before it had answered `ring 6");
+    assert_fails(&run("true", &[SCRIPT]), 1, "ringplan ended before it had answered `ring 8");
     assert_fails(&run("yes", &[SCRIPT]), 1, "does not end");
 }
 

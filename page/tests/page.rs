@@ -33,8 +33,14 @@ fn example(name: &str) -> Vec<u8> {
     fs::read(top().join("examples").join(name)).expect("an example")
 }
 
-const EXAMPLES: [&str; 5] =
-    ["01.script", "dimensions.script", "filling.script", "refusals.script", "tidying.plan"];
+const EXAMPLES: [&str; 6] = [
+    "01.script",
+    "dimensions.script",
+    "filling.script",
+    "refusals.script",
+    "shorter-way.script",
+    "tidying.plan",
+];
 
 /// Elements of HTML that have no inside; all others have a beginning and an end.
 const VOID: [&str; 2] = ["meta", "input"];
@@ -180,6 +186,24 @@ fn busy_months() -> String {
         };
     }
     script
+}
+
+/// The words about the lowest free place and the shorter way fit what `ringplan` answers.
+#[test]
+fn every_place_that_a_circuit_took_alone_is_explained() {
+    let examples = ["filling.script", "returns.script", "shorter-way.script"].map(example);
+    let mut told = BTreeSet::new();
+    for script in examples.into_iter().chain([busy_months().into_bytes()]) {
+        for step in run(&script, Some((1, usize::MAX))).steps {
+            let point = tell(&step).point;
+            assert!(!point.contains("took a free place"), "{}: {point}", step.request);
+            if point.contains("took the lowest free place") {
+                let ways = ["its shorter way", "its longer way", "either way"];
+                told.extend(ways.into_iter().find(|way| point.contains(way)));
+            }
+        }
+    }
+    assert_eq!(told.len(), 3, "{told:?}");
 }
 
 #[test]

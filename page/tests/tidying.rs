@@ -36,6 +36,8 @@ fn which_circuits_each_round_joined_and_where() {
              where 201 begins. Clockwise both would need links 1 and 8, so there they cannot \
              share. Counterclockwise they have no link in common. But both stood clockwise (places \
              0 and 4), so both had to move.",
+            "203 now runs its shorter way round, 1 link instead of 7. 205 now runs its shorter way \
+             round, 2 links instead of 6.",
             "Nothing runs any more at places 0, 2, 4 and 6: wavelengths 0, 1, 2 and 3 clockwise \
              fell dark.",
         ]
@@ -67,6 +69,8 @@ fn both_come_to_a_place_that_was_free() {
              7 from place 1 and 8 from place 3. 7 ends at node 3, where 8 begins. Counterclockwise \
              both would need links 4, 5 and 6, so there they cannot share. Clockwise they have no \
              link in common. But both stood counterclockwise (places 1 and 3), so both had to move.",
+            "7 now runs its shorter way round, 2 links instead of 4. 8 now runs its shorter way \
+             round, 1 link instead of 5.",
             "Nothing runs any more at places 1 and 3: wavelengths 0 and 1 counterclockwise fell \
              dark.",
         ]
@@ -81,9 +85,23 @@ fn wavelengths_fall_dark_each_way_round() {
         &[(1, 2, 3, 1), (2, 3, 2, 1), (3, 4, 5, 4), (4, 5, 6, 4)],
     );
     assert_eq!(
-        told.reasons[2],
+        told.reasons[3],
         "Nothing runs any more at places 2 and 5: wavelength 1 clockwise and wavelength 2 \
          counterclockwise fell dark."
+    );
+}
+
+#[test]
+fn a_tidied_circuit_may_run_its_longer_way_round() {
+    let told = on_six(
+        "tidy rounds 1 moves 2\nmove 7 from 0 to 1\nmove 8 from 2 to 1",
+        &[(7, 1, 3, 0), (8, 3, 2, 2)],
+        &[(7, 1, 3, 1), (8, 3, 2, 1)],
+    );
+    assert_eq!(
+        told.reasons[1],
+        "7 now runs its longer way round, 4 links instead of 2. 8 now runs its shorter way round, \
+         1 link instead of 5."
     );
 }
 

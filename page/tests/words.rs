@@ -49,7 +49,10 @@ fn why_107_needed_three_moves() {
              to place 0, which 101 left.",
             "101 moved from place 0 to place 1, and 105 moved from place 4 to place 1. There the \
              two share.",
-            "107 took place 4, which 105 left. Three moves in all: 102, 101 and 105.",
+            "107 took place 4, which 105 left. It runs its longer way round, 4 links instead of 2. \
+             Three moves in all: 102, 101 and 105.",
+            "102 now runs its longer way round, 5 links instead of 1. 101 now runs its longer way \
+             round, 4 links instead of 2. 105 now runs its shorter way round, 1 link instead of 5.",
         ]
     );
     assert_eq!(told.next, None);
@@ -78,6 +81,8 @@ fn a_pair_with_the_new_circuit() {
              to place 0, which 102 left.",
             "102 moved from place 0 to place 3. There the two share.",
             "108 joined 102 at place 3. Two moves in all: 104 and 102.",
+            "104 now runs its shorter way round, 1 link instead of 5. 102 now runs its shorter way \
+             round, 1 link instead of 5.",
         ]
     );
 }
@@ -102,7 +107,7 @@ fn a_pair_that_stands_the_right_way_already() {
          no link in common. Both stood clockwise already (places 0 and 4), so only one had to move: \
          the lower place stayed."
     );
-    assert_eq!(told.reasons[4], "109 took place 4, which 107 left. One move in all: 107.");
+    assert_eq!(told.reasons[4..], ["109 took place 4, which 107 left. One move in all: 107."]);
 }
 
 fn on_six(request: &str, answer: &str, before: &[Row], after: &[Row]) -> Telling {
@@ -133,6 +138,7 @@ fn a_pair_there_and_back_can_share_either_way() {
              (places 1 and 2), so only one had to move: the lower place stayed.",
             "2 moved from place 2 to place 1. There the two share.",
             "6 took place 2, which 2 left. One move in all: 2.",
+            "2 now runs its shorter way round, 1 link instead of 5.",
         ]
     );
 }
@@ -201,15 +207,90 @@ fn a_circuit_joins_its_return_either_way() {
 }
 
 #[test]
-fn a_circuit_that_stays_alone() {
-    let first = (101, 3, 5, 0);
-    let told = on_filling("open 101 3 5 0 0", "open 101 place 0 moves 0 looks 0", &[], &[first]);
-    assert_eq!(told.point, "Circuit 101 took the lowest free place, place 0, clockwise.");
-    assert_eq!(told.reasons[0], "The ring was empty.");
-    let rows = [first, (102, 6, 5, 1)];
-    let told = on_filling("open 102 6 5 0 0", "open 102 place 1 moves 0 looks 0", &[first], &rows);
-    assert_eq!(told.point, "Circuit 102 took the lowest free place, place 1, counterclockwise.");
-    assert_eq!(told.reasons[0], "No circuit that stood alone could share its place with 102.");
+fn a_circuit_that_shares_the_longer_way_round() {
+    let joins = |before: &[Row], row: Row| on_six_opened(before, row).reasons[1..].join(" ");
+    let alone = (61, 1, 2, 0);
+    assert_eq!(
+        joins(&[alone, (63, 5, 3, 1)], (64, 2, 1, 0)),
+        "64 runs its longer way round, 5 links instead of 1. It shares, although place 3 of its \
+         shorter way was free. No other circuit had to move."
+    );
+    assert_eq!(
+        joins(&[alone, (63, 5, 3, 1), (65, 4, 5, 3)], (64, 2, 1, 0)),
+        "64 runs its longer way round, 5 links instead of 1. No other circuit had to move."
+    );
+    for (row, other) in [((61, 1, 4, 0), (64, 4, 1, 0)), (alone, (64, 2, 4, 0))] {
+        assert_eq!(joins(&[row], other), "No other circuit had to move.");
+    }
+}
+
+/// An opening on a ring of six nodes that moved nobody, told.
+fn on_six_opened(before: &[Row], row: Row) -> Telling {
+    let (number, source, destination, place) = row;
+    on_six(
+        &format!("open {number} {source} {destination} 0 0"),
+        &format!("open {number} place {place} moves 0 looks 0"),
+        before,
+        &with(before, &[row]),
+    )
+}
+
+#[test]
+fn a_circuit_that_stays_alone_took_the_lowest_free_place_of_a_way_round() {
+    let clockwise = [(61, 1, 2, 0), (62, 3, 6, 2)];
+    for (before, row, expected) in [
+        (
+            &[][..],
+            (61, 1, 2, 0),
+            "the lowest free place of its shorter way round, place 0, clockwise: 1 link instead of \
+             5.",
+        ),
+        (
+            &clockwise[..1],
+            (62, 3, 6, 2),
+            "the lowest free place clockwise, place 2: 3 links either way round.",
+        ),
+        (
+            &clockwise[..],
+            (63, 5, 3, 1),
+            "the lowest free place of its shorter way round, place 1, counterclockwise: 2 links \
+             instead of 4.",
+        ),
+        (
+            &clockwise[..],
+            (64, 4, 5, 1),
+            "the lowest free place of its longer way round, place 1, counterclockwise: 5 links \
+             instead of 1, since no clockwise place was free.",
+        ),
+        (
+            &clockwise[..],
+            (65, 2, 5, 1),
+            "the lowest free place counterclockwise, place 1: 3 links either way round, and no \
+             clockwise place was free.",
+        ),
+    ] {
+        let told = on_six_opened(before, row);
+        assert_eq!(told.point, format!("Circuit {} took {expected}", row.0));
+        let reason = match before {
+            [] => "The ring was empty.".into(),
+            _ => format!("No circuit that stood alone could share its place with {}.", row.0),
+        };
+        assert_eq!(told.reasons, [reason, "No other circuit had to move.".into()]);
+    }
+}
+
+#[test]
+fn a_place_is_not_explained_by_what_the_ring_before_does_not_show() {
+    for (before, row, expected) in [
+        (&[][..], (61, 1, 2, 2), "place 2, clockwise"),
+        (&[], (61, 1, 6, 0), "place 0, clockwise"),
+        (&[], (61, 1, 4, 1), "place 1, counterclockwise"),
+        (&[(60, 3, 4, 1)], (61, 1, 4, 3), "place 3, counterclockwise"),
+        (&[(60, 3, 4, 0), (59, 5, 6, 2)], (61, 1, 2, 3), "place 3, counterclockwise"),
+    ] {
+        let expected = format!("Circuit 61 took a free place, {expected}.");
+        assert_eq!(on_six_opened(before, row).point, expected);
+    }
 }
 
 #[test]

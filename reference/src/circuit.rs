@@ -19,6 +19,25 @@ impl Circuit {
         (self.destination + nodes - self.source) % nodes
     }
 
+    /// How many links the circuit uses when it is set up in this direction.
+    pub fn links(self, direction: Direction, nodes: u8) -> u8 {
+        match direction {
+            Direction::Clockwise => self.hops(nodes),
+            Direction::Counterclockwise => nodes - self.hops(nodes),
+        }
+    }
+
+    /// The direction in which the circuit uses fewer links, clockwise when equal.
+    pub fn shorter_way(self, nodes: u8) -> Direction {
+        let [clockwise, counterclockwise] = [Direction::Clockwise, Direction::Counterclockwise]
+            .map(|direction| self.links(direction, nodes));
+        if counterclockwise < clockwise {
+            Direction::Counterclockwise
+        } else {
+            Direction::Clockwise
+        }
+    }
+
     /// Whether the destination of one is the source of the other.
     pub fn is_adjacent_to(self, other: Circuit) -> bool {
         self.destination == other.source || other.destination == self.source
@@ -100,6 +119,44 @@ mod tests {
     }
 
     #[test]
+    fn the_links_of_each_way_are_those_used_and_both_ways_total_n() {
+        for nodes in 3..=9 {
+            for circuit in circuits(nodes) {
+                for direction in [Clockwise, Counterclockwise] {
+                    let is_used = |&link: &u8| circuit.uses_link(link, direction, nodes);
+                    let used = (1..=nodes).filter(is_used).count();
+                    let links = usize::from(circuit.links(direction, nodes));
+                    assert_eq!(links, used, "{circuit:?} {direction:?} on {nodes} nodes");
+                }
+                let both = [Clockwise, Counterclockwise].map(|way| circuit.links(way, nodes));
+                assert_eq!(both[0] + both[1], nodes, "{circuit:?} on {nodes} nodes");
+            }
+        }
+    }
+
+    #[test]
+    fn the_shorter_way_uses_at_most_half_of_the_links_and_is_clockwise_when_equal() {
+        for nodes in 3..=9 {
+            for circuit in circuits(nodes) {
+                let shorter = circuit.shorter_way(nodes);
+                let [links, others] =
+                    [shorter, shorter.other()].map(|way| circuit.links(way, nodes));
+                assert!(links <= others, "{circuit:?} on {nodes} nodes");
+                assert!(links < others || shorter == Clockwise, "{circuit:?} on {nodes} nodes");
+            }
+        }
+    }
+
+    #[test]
+    fn shorter_ways_of_a_ring_of_64_nodes() {
+        let ways = |source, destinations: [u8; 3]| {
+            destinations.map(|destination| circuit(source, destination).shorter_way(64))
+        };
+        assert_eq!(ways(1, [32, 33, 34]), [Clockwise, Clockwise, Counterclockwise]);
+        assert_eq!(ways(40, [7, 8, 9]), [Clockwise, Clockwise, Counterclockwise]);
+    }
+
+    #[test]
     fn two_have_no_link_in_common_where_they_can_share() {
         for nodes in 3..=9 {
             for (a, b) in pairs(nodes) {
@@ -125,13 +182,19 @@ mod tests {
         }
     }
 
-    /// Every circuit of a ring with every one, in both orders.
-    fn pairs(nodes: u8) -> Vec<(Circuit, Circuit)> {
+    /// Every circuit of a ring.
+    fn circuits(nodes: u8) -> Vec<Circuit> {
         let mut circuits = Vec::new();
         for source in 1..=nodes {
             circuits
                 .extend((1..=nodes).filter(|&end| end != source).map(|end| circuit(source, end)));
         }
+        circuits
+    }
+
+    /// Every circuit of a ring with every one, in both orders.
+    fn pairs(nodes: u8) -> Vec<(Circuit, Circuit)> {
+        let circuits = circuits(nodes);
         circuits.iter().flat_map(|&a| circuits.iter().map(move |&b| (a, b))).collect()
     }
 }

@@ -3,7 +3,7 @@
 use crate::circuit::{can_share, Circuit};
 use crate::place::Place;
 use crate::refusal::Refusal;
-use crate::table::{Channel, Lightpath, Table};
+use crate::table::{Lightpath, Table};
 
 /// The most moves of an opening, and the fewest records that a lent list may have.
 pub const MOVES_MOST: usize = 3;
@@ -54,7 +54,7 @@ impl Table {
             return Err(Refusal::ShortMoveList);
         }
         self.check_request(new)?;
-        let free = self.first_to_share_with(new).or_else(|| self.lowest_unlit());
+        let free = self.first_to_share_with(new).or_else(|| self.lowest_unlit_for(new));
         if let Some(place) = free {
             self.set_up(new, place);
             return Ok(Opening { place, moves: 0, looks: 0 });
@@ -94,11 +94,11 @@ impl Table {
             .map(|old| old.place)
     }
 
-    /// Step 2: the lowest unlit place below 2 × W.
-    fn lowest_unlit(&self) -> Option<Place> {
-        let places = &self.channels[..self.places_in_use()];
-        let index = places.iter().position(|&channel| channel == Channel::Unlit)?;
-        Some(Place(index as u8))
+    /// Step 2: the lowest unlit place below 2 × W where the new one goes its shorter way, or if
+    /// there is none, where it goes the other way.
+    fn lowest_unlit_for(&self, new: Circuit) -> Option<Place> {
+        let shorter = new.shorter_way(self.nodes);
+        self.lowest_unlit_in(shorter).or_else(|| self.lowest_unlit_in(shorter.other()))
     }
 
     /// Step 3: the new circuit finds its place by moving one, two or three others.

@@ -6,6 +6,15 @@ pub enum Direction {
     Counterclockwise,
 }
 
+impl Direction {
+    pub fn other(self) -> Direction {
+        match self {
+            Direction::Clockwise => Direction::Counterclockwise,
+            Direction::Counterclockwise => Direction::Clockwise,
+        }
+    }
+}
+
 /// A wavelength number, counted within one direction.
 #[derive(Clone, Copy, PartialEq, Eq, PartialOrd, Ord, Debug)]
 pub struct Wavelength(pub u8);

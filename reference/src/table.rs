@@ -1,7 +1,7 @@
 //! The ring table: its nodes, ports and places, the ring rules, making and closing.
 
 use crate::circuit::{can_share, Circuit};
-use crate::place::Place;
+use crate::place::{Direction, Place, Wavelength};
 use crate::refusal::Refusal;
 
 pub const NODES_LEAST: u8 = 3;
@@ -151,6 +151,13 @@ impl Table {
             Channel::One(circuit) => Some(Lightpath { circuit, place: Place(place) }),
             _ => None,
         })
+    }
+
+    /// The lowest unlit place below 2 × W in this direction.
+    pub(crate) fn lowest_unlit_in(&self, direction: Direction) -> Option<Place> {
+        let wavelengths = (0..self.wavelengths() as u8).map(Wavelength);
+        let mut places = wavelengths.map(|wavelength| wavelength.place(direction));
+        places.find(|place| self.channels[place.index()] == Channel::Unlit)
     }
 
     pub fn place_of(&self, number: u32) -> Option<Place> {

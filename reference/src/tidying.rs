@@ -5,7 +5,7 @@ use crate::circuit::can_share;
 use crate::opening::Move;
 use crate::place::{Direction, Place};
 use crate::refusal::Refusal;
-use crate::table::{Channel, Lightpath, Table, PLACES};
+use crate::table::{Lightpath, Table, PLACES};
 
 /// The fewest records that a lent list may have.
 pub const RECORDS_LEAST: usize = 128;
@@ -42,7 +42,7 @@ impl Table {
         loop {
             nonsharing.clear();
             nonsharing.extend(self.nonsharing().filter(|old| old.place.index() < places_in_use));
-            let Some(joining) = self.first_joining(&nonsharing, places_in_use) else {
+            let Some(joining) = self.first_joining(&nonsharing) else {
                 return Ok(tidying);
             };
             tidying.moves += self.join(&joining, &mut list[tidying.moves..]);
@@ -51,9 +51,9 @@ impl Table {
     }
 
     /// The first pair that can be joined, by first member, then second.
-    fn first_joining(&self, nonsharing: &[Lightpath], places_in_use: usize) -> Option<Joining> {
+    fn first_joining(&self, nonsharing: &[Lightpath]) -> Option<Joining> {
         let unlit = [Direction::Clockwise, Direction::Counterclockwise]
-            .map(|direction| self.lowest_unlit_in(direction, places_in_use));
+            .map(|direction| self.lowest_unlit_in(direction));
         for (index, &a) in nonsharing.iter().enumerate() {
             for &b in &nonsharing[index + 1..] {
                 if a.circuit.is_adjacent_to(b.circuit) {
@@ -78,13 +78,6 @@ impl Table {
             |place: &Place| can_share(self.nodes, place.direction(), a.circuit, b.circuit);
         let of_member = [a.place, b.place].into_iter().find(can_share_at);
         of_member.or_else(|| unlit.into_iter().flatten().find(can_share_at))
-    }
-
-    fn lowest_unlit_in(&self, direction: Direction, places_in_use: usize) -> Option<Place> {
-        let mut places = (0..places_in_use as u8).map(Place);
-        places.find(|&place| {
-            place.direction() == direction && self.channels[place.index()] == Channel::Unlit
-        })
     }
 
     /// Moves those of the pair that stand elsewhere to the place, the lower old place first.

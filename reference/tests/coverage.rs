@@ -37,12 +37,63 @@ fn events(table: &Table, new: Circuit) -> Vec<Event> {
 #[test]
 fn openings_that_move_nothing() {
     let alone_at = |place| standing(&[1; 5], &[(place, circuit(1, 2, 3))]);
-    assert_eq!(events(&alone_at(0), circuit(2, 4, 5)), [Event::Step2]);
+    let expected = [Event::Step2, Event::Step2Shorter(Clockwise)];
+    assert_eq!(events(&alone_at(1), circuit(2, 4, 5)), expected);
     assert_eq!(events(&alone_at(0), circuit(2, 3, 4)), [Event::Step1]);
-    for (place, direction) in [(2, Clockwise), (3, Counterclockwise)] {
-        let expected = [Event::Step1, Event::Step1Return(direction)];
-        assert_eq!(events(&alone_at(place), circuit(2, 3, 2)), expected);
-    }
+    let expected = [Event::Step1, Event::Step1Return(Counterclockwise)];
+    assert_eq!(events(&alone_at(3), circuit(2, 3, 2)), expected);
+    let longer = Event::Step1Longer(Clockwise);
+    let expected = [Event::Step1, Event::Step1Return(Clockwise), longer];
+    assert_eq!(events(&alone_at(2), circuit(2, 3, 2)), expected);
+}
+
+#[test]
+fn step_1_the_longer_way() {
+    let there_and_back = [Event::Step1, Event::Step1Return(Counterclockwise)];
+    let longer = Event::Step1Longer(Counterclockwise);
+    let table = standing(&[1; 5], &[(3, circuit(1, 3, 2))]);
+    assert_eq!(events(&table, circuit(2, 2, 3)), [&there_and_back[..], &[longer]].concat());
+    // Clockwise every place is lit.
+    let lit = [(0, circuit(3, 1, 5)), (2, circuit(4, 4, 1)), (3, circuit(1, 3, 2))];
+    assert_eq!(events(&standing(&[1; 5], &lit), circuit(2, 2, 3)), there_and_back);
+    // On four nodes 1→3 and 3→1 use two links either way.
+    let table = standing(&[1; 4], &[(1, circuit(1, 1, 3))]);
+    assert_eq!(events(&table, circuit(2, 3, 1)), there_and_back);
+}
+
+/// The events of step 2 for a circuit from node 1, where these of the places 0 to 3 are lit by
+/// other circuits from node 1. There are four nodes.
+fn step_2_events(destination: u8, lit: &[u8]) -> Vec<Event> {
+    let others = (2..=4).filter(|&other| other != destination);
+    let circuits: Vec<(u8, Circuit)> = lit
+        .iter()
+        .zip(others)
+        .map(|(&place, other)| (place, circuit(u32::from(other), 1, other)))
+        .collect();
+    let mut events = events(&standing(&[3, 1, 1, 1], &circuits), circuit(1, 1, destination));
+    assert_eq!(events.remove(0), Event::Step2);
+    events
+}
+
+#[test]
+fn step_2_by_the_links_of_both_ways() {
+    use Event::*;
+    let passing = |sort, way| [sort, Step2PassedOver(way)];
+    // 1→2 uses one link clockwise and three counterclockwise.
+    assert_eq!(step_2_events(2, &[]), [Step2Shorter(Clockwise)]);
+    assert_eq!(step_2_events(2, &[0]), passing(Step2Shorter(Clockwise), Clockwise));
+    assert_eq!(step_2_events(2, &[0, 1]), [Step2Shorter(Clockwise)]);
+    assert_eq!(step_2_events(2, &[0, 2]), [Step2Longer(Counterclockwise)]);
+    // 1→4 uses three links clockwise and one counterclockwise.
+    let shorter = Step2Shorter(Counterclockwise);
+    assert_eq!(step_2_events(4, &[]), passing(shorter, Counterclockwise));
+    assert_eq!(step_2_events(4, &[0]), [shorter]);
+    assert_eq!(step_2_events(4, &[0, 1]), passing(shorter, Counterclockwise));
+    assert_eq!(step_2_events(4, &[1, 3]), [Step2Longer(Clockwise)]);
+    // 1→3 uses two links either way.
+    assert_eq!(step_2_events(3, &[]), [Step2Equal(Clockwise)]);
+    assert_eq!(step_2_events(3, &[0]), passing(Step2Equal(Clockwise), Clockwise));
+    assert_eq!(step_2_events(3, &[0, 2]), [Step2Equal(Counterclockwise)]);
 }
 
 #[test]
@@ -97,9 +148,10 @@ fn step_3b_by_its_moves() {
 fn openings_with_an_account_and_moves_of_circuits_that_have_one() {
     let with_account = |account, circuit| Circuit { account, ..circuit };
     let (table, new) = (ring(&[1; 5]), circuit(1, 1, 2));
-    let expected = [Event::Step2, Event::OpenedWithAccount];
+    let step_2 = [Event::Step2, Event::Step2Shorter(Clockwise)];
+    let expected = [&step_2[..], &[Event::OpenedWithAccount]].concat();
     assert_eq!(events(&table, with_account(1, new)), expected);
-    let expected = [Event::Step2, Event::OpenedWithAccount, Event::OpenedWithWidestAccount];
+    let expected = [&expected[..], &[Event::OpenedWithWidestAccount]].concat();
     assert_eq!(events(&table, with_account(u32::MAX, new)), expected);
     // 11, 12 and 13 are moved, and 14 is not.
     for (place, moves) in [(0, true), (1, true), (2, true), (3, false)] {

@@ -32,7 +32,7 @@ const RECORD: usize = 22;
 fn circuit_11_alone_is_29_bytes() {
     let form = form_of(&with_11_alone());
     assert_eq!(form.len(), 29);
-    assert_eq!(form[MAP], 1);
+    assert_eq!(form[MAP], 2);
     assert_eq!(form[..MAP], [5, 1, 1, 1, 1, 1]);
     assert_eq!(form[RECORD..], [0, 0, 0, 0, 11, 1, 5]);
 }
@@ -249,8 +249,10 @@ fn bytes_after_the_last_record_come_before_the_rules() {
 
 #[test]
 fn a_form_that_breaks_a_ring_rule() {
+    // Both at place 0, which is clockwise.
     let second = |number: u8, source, destination| {
         changed(move |form| {
+            form[MAP] = 1;
             form[RECORD] = 2;
             form.extend([0, 0, 0, number, source, destination]);
         })

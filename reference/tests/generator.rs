@@ -10,6 +10,7 @@ use ring::opening::Move;
 use ring::place::Direction::{Clockwise, Counterclockwise};
 use ring::plan::{hexadecimal, parse, Answer, Command, Planner, Question, Source};
 use ring::program::Program;
+use ring::script;
 use ring::table::{Channel, Table};
 
 const PROGRAMS: [Program; 2] = [Program::Script, Program::Plan];
@@ -81,13 +82,40 @@ fn small_and_large_scripts_reach_every_step() {
             assert!(reached.count(step) > 15, "{kind:?} {step}");
         }
         for way in [Clockwise, Counterclockwise] {
-            assert!(reached.count(Event::Step1Return(way)) > 500, "{kind:?} {way:?}");
+            for step in [Event::Step1Return(way), Event::Step1Longer(way)] {
+                assert!(reached.count(step) > 500, "{kind:?} {step}");
+            }
+            for step in [Event::Step2Shorter(way), Event::Step2PassedOver(way)] {
+                assert!(reached.count(step) > 500, "{kind:?} {step}");
+            }
+            assert!(reached.count(Event::Step2Longer(way)) > 200, "{kind:?} {way:?}");
+            assert!(reached.count(Event::Step2Equal(way)) > 2, "{kind:?} {way:?}");
             for moved in [Clockwise, Counterclockwise] {
                 let step = Event::Step3aReturn { stayed: way, moved };
                 assert!(reached.count(step) > 2, "{kind:?} {step}");
             }
         }
     }
+}
+
+#[test]
+fn a_light_script_has_one_ring_and_large_ones_no_small_ring() {
+    let light = script(Program::Script, Kind::Light, 2, 40_000);
+    assert_eq!(accepted_rings(&light), [16]);
+    let large = accepted_rings(&script(Program::Script, Kind::Large, 1, 40_000));
+    assert!(large.len() > 5 && large.iter().all(|&nodes| nodes == 64), "{large:?}");
+}
+
+/// The nodes of each ring of the script that is accepted.
+fn accepted_rings(text: &[u8]) -> Vec<u8> {
+    let mut planner = Planner::new();
+    text.split(|&byte| byte == b'\n')
+        .map(|line| planner.run_line(line))
+        .filter_map(|answer| match answer {
+            Answer::Script(script::Answer::Ring { nodes, .. }) => Some(nodes),
+            _ => None,
+        })
+        .collect()
 }
 
 #[test]

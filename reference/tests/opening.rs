@@ -37,7 +37,7 @@ fn step_1_takes_the_lowest_place_that_fits() {
 fn circuits_without_a_common_link_do_not_share_unless_adjacent() {
     let mut table = ring(&[2; 5]);
     open(&mut table, circuit(1, 1, 2)).unwrap();
-    assert_eq!(open(&mut table, circuit(2, 3, 4)), answer(1, 0, 0));
+    assert_eq!(open(&mut table, circuit(2, 3, 4)), answer(2, 0, 0));
 }
 
 #[test]
@@ -65,7 +65,8 @@ fn one_hop_less_or_more_than_n_is_joined_one_way_only() {
         let mut table = standing(&[2; 5], &[(place, circuit(1, 2, 4))]);
         open(&mut table, circuit(2, 4, destination))
     };
-    // 2→4 with 4→1 totals 4, with 4→3 it totals 6; the lowest unlit place is the other of 0 and 1.
+    // 2→4 with 4→1 totals 4, with 4→3 it totals 6; where they are not joined, the shorter way of
+    // 4→1 is clockwise, to place 0, and that of 4→3 counterclockwise, to place 1.
     assert_eq!((opening(0, 1), opening(1, 1)), (answer(0, 0, 0), answer(0, 0, 0)));
     assert_eq!((opening(0, 3), opening(1, 3)), (answer(1, 0, 0), answer(1, 0, 0)));
 }

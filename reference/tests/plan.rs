@@ -71,7 +71,7 @@ fn the_script_programs_lines_are_answered_as_there() {
 fn a_form_is_written_in_hexadecimal() {
     assert_eq!(on_small("write\n"), format!("write 44 {SMALL_FORM}\n"));
     let one = answer(b"ring 5 1 1 1 1 1\nopen 11 1 5 0 0\nwrite\n");
-    let form = "05010101010101000000000000000000000000000000000000000b0105";
+    let form = "05010101010102000000000000000000000000000000000000000b0105";
     assert!(one.ends_with(&format!("\nwrite 29 {form}\n")), "{one}");
     let fresh = answer(b"ring 3 0 0 64\nwrite\n");
     assert!(fresh.ends_with(&format!("\nwrite 20 03000040{}\n", "0".repeat(32))), "{fresh}");

@@ -2,10 +2,9 @@
 
 mod common;
 
-use std::io::Write;
-use std::process::{Command, Output, Stdio};
+use std::process::Output;
 
-use common::{circuit, open, plan_tables, ring, standing, tables};
+use common::{circuit, open, plan_tables, ring, run_on_form, standing, tables};
 use ring::form::{self, FORM_MOST};
 use ring::generator::{self, Kind};
 use ring::place::Direction::{self, Clockwise, Counterclockwise};
@@ -134,18 +133,8 @@ fn the_load_grows_and_falls_by_what_begins_and_ends_between_two_links() {
     }
 }
 
-/// Runs `reference-load` on a form.
 fn reference_load(arguments: &[&str], form: &[u8]) -> Output {
-    let mut program = Command::new(env!("CARGO_BIN_EXE_reference-load"))
-        .args(arguments)
-        .stdin(Stdio::piped())
-        .stdout(Stdio::piped())
-        .stderr(Stdio::piped())
-        .spawn()
-        .unwrap();
-    // With bad arguments the form is not read.
-    let _ = program.stdin.take().unwrap().write_all(form);
-    program.wait_with_output().unwrap()
+    run_on_form(env!("CARGO_BIN_EXE_reference-load"), arguments, form)
 }
 
 #[test]

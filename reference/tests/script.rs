@@ -37,18 +37,20 @@ example!(example_three_moves, "three-moves", ".script");
 example!(example_returns, "returns", ".script");
 example!(example_refusals, "refusals", ".script");
 example!(example_dimensions, "dimensions", ".script");
+example!(example_shorter_way, "shorter-way", ".script");
 
 #[test]
 fn the_script_of_document_01() {
     let script =
         "ring 5 1 1 1 1 1\nopen 11 1 5 0 0\nopen 12 2 3 0 0\nopen 13 4 1 0 0\nopen 14 3 2 0 0\n\
         open 15 5 4 0 0\nopen 16 1 2 0 0\nclose 13\nopen 16 4 1 0 0\n";
-    // 14 joins 12, its return, counterclockwise. So 15 finds place 3 unlit: with 11 and with 13 its
-    // hops total 8 and 6, and both stand clockwise. 16 then joins 15 there, with 6 hops in total.
-    let output = "ring 5 wavelengths 2\nopen 11 place 0 moves 0 looks 0\n\
-        open 12 place 1 moves 0 looks 0\nopen 13 place 2 moves 0 looks 0\n\
-        open 14 place 1 moves 0 looks 0\nopen 15 place 3 moves 0 looks 0\n\
-        open 16 refused 13\nclose 13\nopen 16 place 3 moves 0 looks 0\n";
+    // 11 uses one link counterclockwise and 12 one clockwise. 13 joins 11, with 6 hops in total, and
+    // 14 joins 12, its return. So 15 finds none alone and goes counterclockwise, over one link. 16,
+    // where 13 was, joins 11 again.
+    let output = "ring 5 wavelengths 2\nopen 11 place 1 moves 0 looks 0\n\
+        open 12 place 0 moves 0 looks 0\nopen 13 place 1 moves 0 looks 0\n\
+        open 14 place 0 moves 0 looks 0\nopen 15 place 3 moves 0 looks 0\n\
+        open 16 refused 13\nclose 13\nopen 16 place 1 moves 0 looks 0\n";
     assert_eq!(answer(script.as_bytes()), output);
 }
 

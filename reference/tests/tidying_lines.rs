@@ -2,10 +2,9 @@
 
 mod common;
 
-use std::io::Write;
-use std::process::{Command, Output, Stdio};
+use std::process::Output;
 
-use common::{circuit, coverage_of, read_line, ring, standing};
+use common::{circuit, coverage_of, read_line, ring, run_on_form, standing};
 use ring::circuit::Circuit;
 use ring::coverage::{Event, TidyingEvent, TIDYING_EVENTS};
 use ring::form;
@@ -43,10 +42,11 @@ fn untidy_table() -> Table {
 fn a_tidying_and_its_moves() {
     let output = "tidy rounds 1 moves 2\nmove 9 from 1 to 0\nmove 4 from 3 to 0\n";
     assert_eq!(answer_on(&untidy_table(), &["tidy"]), output);
-    let lines = ["ring 5 2 2 2 2 2", "open 1 1 3 0 0", "open 2 2 4 0 0", "open 3 4 5 0 0", "tidy"];
+    let lines = ["ring 5 2 2 2 2 2", "open 1 2 4 0 0", "open 2 1 3 0 0", "open 3 3 2 0 0", "tidy"];
     let output = answer(&lines);
-    // 3 could share with 2 clockwise, where 2 does not stand, so it took an unlit place.
-    let end = "open 3 place 2 moves 0 looks 0\ntidy rounds 1 moves 1\nmove 2 from 1 to 2\n";
+    // 3 could share with 1 and with 2 counterclockwise, where neither stands, so it took an unlit
+    // place.
+    let end = "open 3 place 1 moves 0 looks 0\ntidy rounds 1 moves 1\nmove 1 from 0 to 1\n";
     assert!(output.ends_with(end), "{output}");
 }
 
@@ -57,7 +57,7 @@ fn the_tidied_table_is_in_force() {
         tidy rounds 0 moves 0\n\
         circuits 2\ncircuit 4 from 3 to 4 remark 0 account 0 place 0\n\
         circuit 9 from 1 to 3 remark 0 account 0 place 0\n\
-        open 5 place 1 moves 0 looks 0\n";
+        open 5 place 2 moves 0 looks 0\n";
     assert_eq!(answer_on(&untidy_table(), &lines), output);
     assert_eq!(answer_on(&ring(&[0; 3]), &["tidy"]), "tidy rounds 0 moves 0\n");
 }
@@ -243,18 +243,8 @@ fn refused_lines_that_would_tidy() {
     assert_eq!(coverage.count(Event::RefusedOther), 1);
 }
 
-/// Runs `reference-tidy` on a form.
 fn reference_tidy(arguments: &[&str], form: &[u8]) -> Output {
-    let mut program = Command::new(env!("CARGO_BIN_EXE_reference-tidy"))
-        .args(arguments)
-        .stdin(Stdio::piped())
-        .stdout(Stdio::piped())
-        .stderr(Stdio::piped())
-        .spawn()
-        .unwrap();
-    // With bad arguments the form is not read.
-    let _ = program.stdin.take().unwrap().write_all(form);
-    program.wait_with_output().unwrap()
+    run_on_form(env!("CARGO_BIN_EXE_reference-tidy"), arguments, form)
 }
 
 /// 258 and 7 move from places 1 and 3 to place 0.

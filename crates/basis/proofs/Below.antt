@@ -1,9 +1,12 @@
 -- The numbers below a bound: how many pass a test, and the first, under another bound, below a sum, and by another test. Assumes nothing.
-use Prim.Native.Nat.{ℕ, zero, suc, _+_, _≤_, _<_, suc-le-suc}
+use Prim.Native.Nat.{ℕ, zero, suc, _+_, _-_, _≤_, _<_, suc-le-suc}
 use mathlib.Core.Path.{_≡_, refl, sym, ap, _∙_}
 use mathlib.Core.Bool.{Bool, true, false}
 use native.Mathlib.Nat.{zero-add, suc-add, add-assoc, le-of-suc-le-suc}
 use native.Mathlib.Omega.{arith}
+use lib.Dec.{ltb}
+use borrow.Author.Tests.{lt-ltb, le-ltb}
+use Rattle.basis.specs.Choice.{bit}
 use Rattle.basis.specs.Count.{countBelow}
 use Rattle.basis.specs.Search.{firstBelow}
 use Rattle.basis.proofs.Search.{first-passes, before-fails, first-only, first-end}
@@ -21,6 +24,30 @@ first-same (suc n) f g e = simp (e 0 (omega arith), first-same n (λ p. f (suc p
 pub count-sum : (k m : ℕ) (f : ℕ → Bool) → countBelow (k + m) f ≡ countBelow k f + countBelow m (λ p. f (k + p))
 count-sum zero m f = simp zero-add
 count-sum (suc k) m f = simp (suc-add, count-sum k m (λ p. f (suc p)), add-assoc)
+
+-- how many numbers pass two tests, counted together, where each number passes as many of the one two as of the other two
+pub count-balance : (n : ℕ) (f g h k : ℕ → Bool) → ((p : ℕ) → p < n → bit (f p) + bit (g p) ≡ bit (h p) + bit (k p))
+    → countBelow n f + countBelow n g ≡ countBelow n h + countBelow n k
+count-balance zero f g h k e = refl
+count-balance (suc n) f g h k e =
+    omega (arith, e 0 (omega arith), count-balance n (λ p. f (suc p)) (λ p. g (suc p)) (λ p. h (suc p)) (λ p. k (suc p)) (λ p l. e (suc p) (suc-le-suc l)))
+
+-- where none passes, and where each does
+pub count-none : (n : ℕ) (f : ℕ → Bool) → ((p : ℕ) → p < n → f p ≡ false) → countBelow n f ≡ 0
+count-none zero f e = refl
+count-none (suc n) f e = simp (e 0 (omega arith), count-none n (λ p. f (suc p)) (λ p l. e (suc p) (suc-le-suc l)))
+
+pub count-every : (n : ℕ) (f : ℕ → Bool) → ((p : ℕ) → p < n → f p ≡ true) → countBelow n f ≡ n
+count-every zero f e = refl
+count-every (suc n) f e = simp (e 0 (omega arith), count-every n (λ p. f (suc p)) (λ p l. e (suc p) (suc-le-suc l))) (omega arith)
+
+-- of the numbers below n those below s are s
+pub count-less : (n s : ℕ) → s ≤ n → countBelow n (λ p. ltb p s) ≡ s
+count-less n s h =
+    let e : s + (n - s) ≡ n = omega arith in
+    let low = count-every s (λ p. ltb p s) (λ p l. lt-ltb p s l) in
+    let high = count-none (n - s) (λ p. ltb (s + p) s) (λ p l. le-ltb (s + p) s (omega arith)) in
+    omega (arith, ap (λ (k : ℕ). countBelow k (λ p. ltb p s)) e, count-sum s (n - s) (λ p. ltb p s), low, high)
 
 -- the first below m, where it is found, is the first below n
 pub first-bound : (m n : ℕ) (f : ℕ → Bool) → firstBelow m f < m → firstBelow m f < n → firstBelow n f ≡ firstBelow m f

@@ -6,7 +6,7 @@ use Rattle.lightpath.specs.Circuit.{ahead, users}
 use Rattle.lit_words.specs.Lit.{bitOf, word, noneLitFrom}
 use Rattle.moves.specs.Lent.{written}
 use Rattle.moves.specs.MoveList.{writtenAll}
-use Rattle.steps.specs.Steps.{planOf}
+use Rattle.steps.specs.Steps.{unlitPlace, planOf}
 use Rattle.tidying.specs.Tidying.{tidyWithin}
 use Rattle.ring.specs.Making.{makeOf}
 use Rattle.ring.specs.Opening.{decideOf}
@@ -29,7 +29,7 @@ each (c ∷ cs) e = ((cc), each cs (cc))
 
 -- the answers to the table's, computed
 computed : map (λ c. answerTo (c .asked)) cases ≡ map (λ c. c .expected) cases
-unfolding ahead word noneLitFrom makeOf decideOf closeOf decideTidyOf tidyWithin planOf written writtenAll formOf mapBytes recordsBytes recordBytes fieldMap circuitBytes highFirst optionalBytes bitOf numberFrom readOf readTable checked readRecordsBy readPlaceBy readRecord readSecond mapHolds readCircuit readOptional readMap mapBit readPorts tunedOf carriedOf frequencyAt wavelengthAt users lightpathsBelow loadsTo reportOf
+unfolding ahead word noneLitFrom makeOf decideOf closeOf decideTidyOf tidyWithin unlitPlace planOf written writtenAll formOf mapBytes recordsBytes recordBytes fieldMap circuitBytes highFirst optionalBytes bitOf numberFrom readOf readTable checked readRecordsBy readPlaceBy readRecord readSecond mapHolds readCircuit readOptional readMap mapBit readPorts tunedOf carriedOf frequencyAt wavelengthAt users lightpathsBelow loadsTo reportOf
 computed = refl
 
 -- so each of its cases holds

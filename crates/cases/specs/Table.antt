@@ -70,27 +70,27 @@ abbrev made : RingTable
 made = ring5 []
 
 abbrev opened11 : RingTable
-opened11 = ring5 (alone c11 ∷ [])
+opened11 = ring5 (unlit ∷ alone c11 ∷ [])
 
 abbrev opened12 : RingTable
-opened12 = ring5 (alone c11 ∷ alone c12 ∷ [])
+opened12 = ring5 (alone c12 ∷ alone c11 ∷ [])
 
 abbrev opened13 : RingTable
-opened13 = ring5 (alone c11 ∷ alone c12 ∷ alone c13 ∷ [])
+opened13 = ring5 (alone c12 ∷ shared c11 c13 ∷ [])
 
 abbrev opened14 : RingTable
-opened14 = ring5 (alone c11 ∷ shared c12 c14 ∷ alone c13 ∷ [])
+opened14 = ring5 (shared c12 c14 ∷ shared c11 c13 ∷ [])
 
 abbrev opened15 : RingTable
-opened15 = ring5 (alone c11 ∷ shared c12 c14 ∷ alone c13 ∷ alone c15 ∷ [])
+opened15 = ring5 (shared c12 c14 ∷ shared c11 c13 ∷ unlit ∷ alone c15 ∷ [])
 
 abbrev closed13 : RingTable
-closed13 = ring5 (alone c11 ∷ shared c12 c14 ∷ unlit ∷ alone c15 ∷ [])
+closed13 = ring5 (shared c12 c14 ∷ alone c11 ∷ unlit ∷ alone c15 ∷ [])
 
 abbrev opened16 : RingTable
-opened16 = ring5 (alone c11 ∷ shared c12 c14 ∷ unlit ∷ shared c15 c16 ∷ [])
+opened16 = ring5 (shared c12 c14 ∷ shared c11 c16 ∷ unlit ∷ alone c15 ∷ [])
 
--- the table that 01's script has before 15 where 12 and 14 share clockwise only
+-- the table before 15 as 01 alone, without E1 and E6, makes it
 abbrev before15 : RingTable
 before15 = ring5 (alone c11 ∷ alone c12 ∷ alone c13 ∷ alone c14 ∷ [])
 
@@ -99,7 +99,7 @@ abbrev ring4 : List Slot → RingTable
 ring4 u = ring 4 (2 ∷ 1 ∷ 2 ∷ 1 ∷ []) u
 
 abbrev returns : RingTable
-returns = ring4 (shared (circuit 51 4 1) (circuit 52 3 4) ∷ alone (circuit 53 3 1) ∷ alone (circuit 55 1 3) ∷ alone (circuit 56 1 2) ∷ [])
+returns = ring4 (shared (circuit 51 4 1) (circuit 52 3 4) ∷ alone (circuit 55 3 1) ∷ alone (circuit 53 1 3) ∷ alone (circuit 56 1 2) ∷ [])
 
 -- a ring of three nodes with a port each
 abbrev ring3 : List Slot → RingTable
@@ -242,21 +242,26 @@ frequencies =
 abbrev bytes : List ℕ → Answer
 bytes l = reported (record { number = 0; values = [] }) l
 
--- 02, E4: load reports, and loads from link to link, of the table that 01's script leaves, with circuits both ways and two shared places
+-- circuits both ways, and two shared places
+abbrev bothWays : RingTable
+bothWays = ring5 (alone c11 ∷ shared c12 c14 ∷ unlit ∷ shared c15 c16 ∷ [])
+
+-- 02, E4: load reports, and loads from link to link
 abbrev loads : List Case
 loads =
     reporting made 10 gives bytes (replicate 10 0)
-    ∷ reporting opened11 10 gives bytes (1 ∷ 0 ∷ 1 ∷ 0 ∷ 1 ∷ 0 ∷ 1 ∷ 0 ∷ 0 ∷ 0 ∷ [])
-    ∷ reporting opened16 12 gives bytes (1 ∷ 2 ∷ 1 ∷ 2 ∷ 1 ∷ 2 ∷ 1 ∷ 2 ∷ 0 ∷ 1 ∷ 99 ∷ 99 ∷ [])
-    ∷ reporting opened16 9 gives reported (refusal 21) (replicate 9 99)
+    ∷ reporting opened11 10 gives bytes (0 ∷ 0 ∷ 0 ∷ 0 ∷ 0 ∷ 0 ∷ 0 ∷ 0 ∷ 0 ∷ 1 ∷ [])
+    ∷ reporting opened16 10 gives bytes (replicate 10 1)
+    ∷ reporting bothWays 12 gives bytes (1 ∷ 2 ∷ 1 ∷ 2 ∷ 1 ∷ 2 ∷ 1 ∷ 2 ∷ 0 ∷ 1 ∷ 99 ∷ 99 ∷ [])
+    ∷ reporting bothWays 9 gives reported (refusal 21) (replicate 9 99)
     ∷ reporting blankTable 12 gives reported (refusal 22) (replicate 12 99)
     -- link 1 after link 5
-    ∷ stepping opened16 clockwise 5 gives stepped 1 0 1 0 1
-    ∷ stepping opened16 counterclockwise 5 gives stepped 1 1 1 0 2
+    ∷ stepping bothWays clockwise 5 gives stepped 1 0 1 0 1
+    ∷ stepping bothWays counterclockwise 5 gives stepped 1 1 1 0 2
     -- one begins where another ends, and two steps where one ends
-    ∷ stepping opened16 counterclockwise 1 gives stepped 2 2 1 1 2
-    ∷ stepping opened16 counterclockwise 4 gives stepped 5 2 0 1 1
-    ∷ stepping opened16 clockwise 4 gives stepped 5 1 0 1 0
+    ∷ stepping bothWays counterclockwise 1 gives stepped 2 2 1 1 2
+    ∷ stepping bothWays counterclockwise 4 gives stepped 5 2 0 1 1
+    ∷ stepping bothWays clockwise 4 gives stepped 5 1 0 1 0
     ∷ []
 
 -- six nodes with two ports each: eight places
@@ -281,6 +286,59 @@ a23 = circuit 1 2 3
 
 abbrev b32 : Circuit
 b32 = circuit 2 3 2
+
+-- four circuits of which 1→4, 1→6 and 6→1 can join none, at every clockwise place and at every counterclockwise one
+abbrev fill1 : Slot
+fill1 = alone (circuit 31 2 3)
+
+abbrev fill2 : Slot
+fill2 = alone (circuit 32 2 3)
+
+abbrev fill3 : Slot
+fill3 = alone (circuit 33 3 5)
+
+abbrev fill4 : Slot
+fill4 = alone (circuit 34 3 5)
+
+-- the hops are 3, 5 and 1 of six
+abbrev c14of6 : Circuit
+c14of6 = circuit 7 1 4
+
+abbrev c16of6 : Circuit
+c16of6 = circuit 7 1 6
+
+abbrev c61of6 : Circuit
+c61of6 = circuit 7 6 1
+
+-- 02, E6: step 2
+abbrev shorterWays : List Case
+shorterWays =
+    -- clockwise, counterclockwise, and clockwise when equal
+    opening (ring6 []) c61of6 gives opened 0 0 0 blanks (ring6 (alone c61of6 ∷ []))
+    ∷ opening (ring6 []) c16of6 gives opened 1 0 0 blanks (ring6 (unlit ∷ alone c16of6 ∷ []))
+    ∷ opening (ring6 []) c14of6 gives opened 0 0 0 blanks (ring6 (alone c14of6 ∷ []))
+    -- the lowest unlit place of that direction, past lower ones of the other
+    ∷ opening (ring6 (unlit ∷ fill1 ∷ [])) c16of6 gives opened 3 0 0 blanks (ring6 (unlit ∷ fill1 ∷ unlit ∷ alone c16of6 ∷ []))
+    ∷ opening (ring6 (fill1 ∷ unlit ∷ fill2 ∷ [])) c61of6 gives opened 4 0 0 blanks (ring6 (fill1 ∷ unlit ∷ fill2 ∷ unlit ∷ alone c61of6 ∷ []))
+    -- that direction is full: the other one, and no place at or above 2 × W
+    ∷ opening (ring6 (fill1 ∷ unlit ∷ fill2 ∷ unlit ∷ fill3 ∷ unlit ∷ fill4 ∷ [])) c61of6
+    gives opened 1 0 0 blanks (ring6 (fill1 ∷ alone c61of6 ∷ fill2 ∷ unlit ∷ fill3 ∷ unlit ∷ fill4 ∷ []))
+    ∷ opening (ring6 (unlit ∷ fill1 ∷ unlit ∷ fill2 ∷ unlit ∷ fill3 ∷ unlit ∷ fill4 ∷ [])) c16of6
+    gives opened 0 0 0 blanks (ring6 (alone c16of6 ∷ fill1 ∷ unlit ∷ fill2 ∷ unlit ∷ fill3 ∷ unlit ∷ fill4 ∷ []))
+    ∷ opening (ring6 (fill1 ∷ unlit ∷ fill2 ∷ unlit ∷ fill3 ∷ unlit ∷ fill4 ∷ [])) c14of6
+    gives opened 1 0 0 blanks (ring6 (fill1 ∷ alone c14of6 ∷ fill2 ∷ unlit ∷ fill3 ∷ unlit ∷ fill4 ∷ []))
+    -- step 1 comes first, also the long way round: 5→1 joins 1→5 counterclockwise, over four links, though place 0 is unlit
+    ∷ opening (ring6 (unlit ∷ alone a15 ∷ [])) (circuit 2 5 1) gives opened 1 0 0 blanks (ring6 (unlit ∷ shared a15 (circuit 2 5 1) ∷ []))
+    -- and the lower place is joined, though 5→1 could join 1→2 at place 2, the short way round
+    ∷ opening (ring6 (unlit ∷ alone a15 ∷ alone (circuit 3 1 2) ∷ [])) (circuit 2 5 1)
+    gives opened 1 0 0 blanks (ring6 (unlit ∷ shared a15 (circuit 2 5 1) ∷ alone (circuit 3 1 2) ∷ []))
+    -- both directions are full: step 3, which knows no shorter way. 6→4 takes place 2, over four links: examples/shorter-way.script
+    ∷ opening
+    (ring 6 (replicate 6 1) (shared (circuit 61 1 2) (circuit 64 2 1) ∷ alone (circuit 63 5 3) ∷ alone (circuit 62 3 6) ∷ alone (circuit 65 4 5) ∷ []))
+    (circuit 66 6 4)
+    gives opened 2 1 1 (move 62 2 1 ∷ blank ∷ blank ∷ [])
+    (ring 6 (replicate 6 1) (shared (circuit 61 1 2) (circuit 64 2 1) ∷ shared (circuit 62 3 6) (circuit 63 5 3) ∷ alone (circuit 66 6 4) ∷ alone (circuit 65 4 5) ∷ []))
+    ∷ []
 
 -- eight nodes with a port each: six places
 abbrev waiting : List Slot → RingTable
@@ -338,7 +396,7 @@ cases =
     ∷ ports (2 ∷ 1 ∷ 2 ∷ 1 ∷ 1 ∷ []) gives dimensions 7 3
     ∷ ports (0 ∷ 0 ∷ 0 ∷ 0 ∷ 0 ∷ []) gives dimensions 0 0
     -- circuit 11 alone
-    ∷ saving opened11 gives saved 29 1
+    ∷ saving opened11 gives saved 29 2
     -- N from 3 to 64
     ∷ making 2 (replicate 2 1) gives refused 1 blankTable
     ∷ making 3 (replicate 3 1) gives done (ring 3 (replicate 3 1) [])
@@ -349,30 +407,32 @@ cases =
     ∷ making 4 (64 ∷ 64 ∷ 64 ∷ 1 ∷ []) gives refused 3 blankTable
     -- the script
     ∷ making 5 (1 ∷ 1 ∷ 1 ∷ 1 ∷ 1 ∷ []) gives done made
-    ∷ opening made c11 gives opened 0 0 0 blanks opened11
-    ∷ opening opened11 c12 gives opened 1 0 0 blanks opened12
-    ∷ opening opened12 c13 gives opened 2 0 0 blanks opened13
-    ∷ opening opened13 c14 gives opened 1 0 0 blanks opened14
+    ∷ opening made c11 gives opened 1 0 0 blanks opened11
+    ∷ opening opened11 c12 gives opened 0 0 0 blanks opened12
+    ∷ opening opened12 c13 gives opened 1 0 0 blanks opened13
+    ∷ opening opened13 c14 gives opened 0 0 0 blanks opened14
     ∷ opening opened14 c15 gives opened 3 0 0 blanks opened15
     ∷ opening opened15 (circuit 16 1 2) gives notOpened 13 blanks opened15
     ∷ closing opened15 13 gives done closed13
-    ∷ opening closed13 c16 gives opened 3 0 0 blanks opened16
+    ∷ opening closed13 c16 gives opened 1 0 0 blanks opened16
     -- the opening of 15: 3b with three moves
     ∷ opening before15 c15 gives opened 2 3 2 (move 12 1 0 ∷ move 11 0 1 ∷ move 13 2 1 ∷ []) (ring5 (alone c12 ∷ shared c11 c13 ∷ alone c15 ∷ alone c14 ∷ []))
-    -- 3b with two moves: examples/two-moves.script
+    -- 3b with two moves, past a shared place: examples/two-moves.script
     ∷ opening
-    (ring 6 (replicate 6 1) (alone (circuit 21 6 5) ∷ alone (circuit 22 2 3) ∷ alone (circuit 23 4 2) ∷ alone (circuit 24 1 4) ∷ []))
-    (circuit 25 5 1)
-    gives opened 1 2 4 (move 22 1 0 ∷ move 21 0 1 ∷ blank ∷ [])
-    (ring 6 (replicate 6 1) (alone (circuit 22 2 3) ∷ shared (circuit 21 6 5) (circuit 25 5 1) ∷ alone (circuit 23 4 2) ∷ alone (circuit 24 1 4) ∷ []))
+    (ring 6 (replicate 6 1) (shared (circuit 21 1 2) (circuit 22 2 3) ∷ alone (circuit 24 5 1) ∷ alone (circuit 23 3 6) ∷ alone (circuit 25 6 4) ∷ []))
+    (circuit 26 4 5)
+    gives opened 2 2 3 (move 23 2 1 ∷ move 24 1 2 ∷ blank ∷ [])
+    (ring 6 (replicate 6 1) (shared (circuit 21 1 2) (circuit 22 2 3) ∷ alone (circuit 23 3 6) ∷ shared (circuit 24 5 1) (circuit 26 4 5) ∷ alone (circuit 25 6 4) ∷ []))
     -- 3a: examples/one-move.script
-    ∷ opening (ring5 (alone (circuit 21 4 3) ∷ alone (circuit 22 1 2) ∷ alone (circuit 23 2 5) ∷ alone (circuit 24 3 1) ∷ [])) (circuit 25 5 4)
+    ∷ opening
+    (ring 6 (replicate 6 1) (alone (circuit 21 1 4) ∷ alone (circuit 23 6 5) ∷ alone (circuit 22 3 6) ∷ alone (circuit 24 2 1) ∷ []))
+    (circuit 25 4 3)
     gives opened 0 1 3 (move 21 0 3 ∷ blank ∷ blank ∷ [])
-    (ring5 (alone (circuit 25 5 4) ∷ alone (circuit 22 1 2) ∷ alone (circuit 23 2 5) ∷ shared (circuit 21 4 3) (circuit 24 3 1) ∷ []))
+    (ring 6 (replicate 6 1) (alone (circuit 25 4 3) ∷ alone (circuit 23 6 5) ∷ alone (circuit 22 3 6) ∷ shared (circuit 21 1 4) (circuit 24 2 1) ∷ []))
     -- 3a with a circuit and its return: the lower place stays
     ∷ opening returns (circuit 57 2 3)
-    gives opened 2 1 1 (move 55 2 1 ∷ blank ∷ blank ∷ [])
-    (ring4 (shared (circuit 51 4 1) (circuit 52 3 4) ∷ shared (circuit 53 3 1) (circuit 55 1 3) ∷ alone (circuit 57 2 3) ∷ alone (circuit 56 1 2) ∷ []))
+    gives opened 2 1 1 (move 53 2 1 ∷ blank ∷ blank ∷ [])
+    (ring4 (shared (circuit 51 4 1) (circuit 52 3 4) ∷ shared (circuit 53 1 3) (circuit 55 3 1) ∷ alone (circuit 57 2 3) ∷ alone (circuit 56 1 2) ∷ []))
     -- the field maps of one circuit
     ∷ (0 ∷ n1) readAs (alone (first 0 0) ∷ [])
     ∷ (1 ∷ n1 ++ r1) readAs (alone (first 258 0) ∷ [])
@@ -407,4 +467,4 @@ cases =
     -- bit 2 or bit 4 without bit 1, and bits 5 to 7, with every field after them and with none
     ∷ map (λ m. (m ∷ n1 ++ r1 ++ a1 ++ n2 ++ r2 ++ a2) refusedBy 31) badMaps
     ++ map (λ m. (m ∷ []) refusedBy 31) badMaps
-    ++ frequencies ++ loads ++ tidyings
+    ++ frequencies ++ loads ++ tidyings ++ shorterWays

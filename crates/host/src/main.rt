@@ -246,7 +246,8 @@ fn circuit(number: u32, source: u8, destination: u8) -> Circuit
     }
 }
 
-// Document 01's script: five nodes with a transmitter and a receiver at each. 14 is the return of 12 and joins it.
+// Document 01's script: five nodes with a transmitter and a receiver at each. 11 takes its shorter way round, counterclockwise; 14 is the
+// return of 12 and joins it.
 fn join_return() {
     let table = make_ring(5, b"\x01\x01\x01\x01\x01");
     let table = open_circuit(table, circuit(11, 1, 5));
@@ -259,45 +260,46 @@ fn join_return() {
     open_circuit(table, circuit(16, 4, 1));
 }
 
-// On the same ring, an opening that moves one.
+// On a ring of six nodes, an opening that moves one.
 fn move_one() {
-    let table = make_ring(5, b"\x01\x01\x01\x01\x01");
-    let table = open_circuit(table, circuit(21, 4, 3));
-    let table = open_circuit(table, circuit(22, 1, 2));
-    let table = open_circuit(table, circuit(23, 2, 5));
-    let table = open_circuit(table, circuit(24, 3, 1));
-    open_circuit(table, circuit(25, 5, 4));
+    let table = make_ring(6, b"\x01\x01\x01\x01\x01\x01");
+    let table = open_circuit(table, circuit(21, 1, 4));
+    let table = open_circuit(table, circuit(22, 3, 6));
+    let table = open_circuit(table, circuit(23, 6, 5));
+    let table = open_circuit(table, circuit(24, 2, 1));
+    open_circuit(table, circuit(25, 4, 3));
 }
 
-// On a ring of six nodes, an opening that moves two.
+// On the same ring, an opening that moves two.
 fn move_two() -> RingTable {
     let table = make_ring(6, b"\x01\x01\x01\x01\x01\x01");
-    let table = open_circuit(table, circuit(21, 6, 5));
+    let table = open_circuit(table, circuit(21, 1, 2));
     let table = open_circuit(table, circuit(22, 2, 3));
-    let table = open_circuit(table, circuit(23, 4, 2));
-    let table = open_circuit(table, circuit(24, 1, 4));
-    open_circuit(table, circuit(25, 5, 1))
+    let table = open_circuit(table, circuit(23, 3, 6));
+    let table = open_circuit(table, circuit(24, 5, 1));
+    let table = open_circuit(table, circuit(25, 6, 4));
+    open_circuit(table, circuit(26, 4, 5))
 }
 
-// On one of five, an opening that moves three.
+// And one that moves three.
 fn move_three() {
-    let table = make_ring(5, b"\x01\x01\x01\x01\x01");
-    let table = open_circuit(table, circuit(21, 5, 4));
-    let table = open_circuit(table, circuit(22, 1, 2));
-    let table = open_circuit(table, circuit(23, 4, 1));
-    let table = open_circuit(table, circuit(24, 2, 3));
-    open_circuit(table, circuit(25, 3, 5));
+    let table = make_ring(6, b"\x01\x01\x01\x01\x01\x01");
+    let table = open_circuit(table, circuit(21, 1, 2));
+    let table = open_circuit(table, circuit(22, 3, 6));
+    let table = open_circuit(table, circuit(23, 4, 5));
+    let table = open_circuit(table, circuit(24, 5, 3));
+    open_circuit(table, circuit(25, 6, 4));
 }
 
-// On one of six, circuits that stand apart once 21 is closed: 22 and 24, both clockwise, and 23 and 25, which can share clockwise and both
-// stand counterclockwise.
+// Circuits that stand apart once 21 is closed: 22 and 23, both clockwise, and 24 and 25, which can share clockwise and both stand
+// counterclockwise, where they went since no clockwise place was unlit.
 fn stand_apart() -> RingTable {
     let table = make_ring(6, b"\x01\x01\x01\x01\x01\x01");
     let table = open_circuit(table, circuit(21, 5, 6));
     let table = open_circuit(table, circuit(22, 6, 1));
-    let table = open_circuit(table, circuit(23, 2, 3));
-    let table = open_circuit(table, circuit(24, 1, 2));
-    let table = open_circuit(table, circuit(25, 3, 4));
+    let table = open_circuit(table, circuit(23, 1, 2));
+    let table = open_circuit(table, circuit(24, 3, 4));
+    let table = open_circuit(table, circuit(25, 4, 5));
     close_circuit(table, 21)
 }
 

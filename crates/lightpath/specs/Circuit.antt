@@ -39,6 +39,18 @@ abbrev pub uses : ℕ → Direction → Circuit → ℕ → Bool
 uses N clockwise c l = ltb (ahead N (c .source) l) (hops N c)
 uses N counterclockwise c l = not (ltb (ahead N (c .source) l) (hops N c))
 
+-- how many links it uses: clockwise as many as hops, counterclockwise the others
+abbrev pub linksUsed : ℕ → Direction → Circuit → ℕ
+linksUsed N clockwise c = hops N c
+linksUsed N counterclockwise c = N - hops N c
+
+-- the direction where the circuit uses fewer links, clockwise when equal (02, E6): whether it is clockwise, and it
+abbrev pub shortClockwise : ℕ → Circuit → Bool
+shortClockwise N c = leb (linksUsed N clockwise c) (linksUsed N counterclockwise c)
+
+abbrev pub shorterWay : ℕ → Circuit → Direction
+shorterWay N c = pick (shortClockwise N c) clockwise counterclockwise
+
 -- how many of some lightpaths of direction d use link l
 unfoldable pub users : ℕ → Direction → ℕ → List Circuit → ℕ
 users N d l cs = weigh (λ c. bit (uses N d c l)) cs

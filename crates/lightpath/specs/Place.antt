@@ -31,3 +31,8 @@ sameDirection clockwise clockwise = true
 sameDirection clockwise counterclockwise = false
 sameDirection counterclockwise clockwise = false
 sameDirection counterclockwise counterclockwise = true
+
+-- the other way round
+abbrev pub otherWay : Direction → Direction
+otherWay clockwise = counterclockwise
+otherWay counterclockwise = clockwise

@@ -4,8 +4,8 @@
 ghost use mathlib.Core.Path.{_≡_};
 ghost use Prim.Native.Nat.{_+_, _*_, _<_};
 ghost use Rattle.limits.specs.Limits.{placeCount};
-ghost use Rattle.lightpath.specs.Place.{placeOf, wavelengthOf, directionOf, sameDirection};
-ghost use Rattle.lightpath.specs.Circuit.{onRing, joins, ahead, hops, uses, adjacent, canShare, shareDirection};
+ghost use Rattle.lightpath.specs.Place.{placeOf, wavelengthOf, directionOf, sameDirection, otherWay};
+ghost use Rattle.lightpath.specs.Circuit.{onRing, joins, ahead, hops, uses, shorterWay, adjacent, canShare, shareDirection};
 
 // The two ways round the ring.
 pub enum Direction {
@@ -51,6 +51,16 @@ impl Direction {
                 Direction::Clockwise => false,
                 Direction::Counterclockwise => true,
             },
+        }
+    }
+
+    // The other way round.
+    pub fn other(self) -> Direction
+        ensures { λ r. ⌜ r ≡ otherWay self ⌝ }
+    {
+        match self {
+            Direction::Clockwise => Direction::Counterclockwise,
+            Direction::Counterclockwise => Direction::Clockwise,
         }
     }
 }
@@ -140,6 +150,20 @@ impl Circuit {
         match direction {
             Direction::Clockwise => distance < hops,
             Direction::Counterclockwise => !(distance < hops),
+        }
+    }
+
+    // The direction in which the circuit uses fewer links, clockwise if it uses as many in both.
+    pub fn shorter_way(self, nodes: u8) -> Direction
+        requires { ⌜ 0 < nodes ⌝ }
+        ensures { λ r. ⌜ r ≡ shorterWay nodes self ⌝ }
+    {
+        let hops = self.hops(nodes);
+        let others = nodes as u16 - hops;
+        if hops <= others {
+            Direction::Clockwise
+        } else {
+            Direction::Counterclockwise
         }
     }
 

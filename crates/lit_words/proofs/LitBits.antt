@@ -14,6 +14,7 @@ use Rattle.basis.specs.Search.{firstBelow}
 use Rattle.basis.proofs.Below.{count-same, first-same, count-sum, first-bound, first-sum}
 use Rattle.limits.specs.Limits.{placeCount}
 use Rattle.lit_words.specs.Lit.{Lit, bitOf, litBit, wordsOf}
+use Rattle.lit_words.specs.Unlit.{unlitBy}
 use Rattle.lit_words.proofs.Bits.{ones-count, trailing-first, word-bit}
 
 -- place p of the lower 64 is bit p of the low word
@@ -48,11 +49,13 @@ module _ (l : Lit) (low : l .low < 2 ^ 64) (high : l .high < 2 ^ 64) where
       ∙ first-same 64 (λ p. not (bitOf (l .high) p)) (λ p. not (litBit l (64 + p))) (λ p h. ap not (sym (high-bits l p)))
 
   -- the first unlit place is the low word's where that has one
-  pub unlit-low : trailingZeros 64 (2 ^ 64 - 1 - l .low) < 64 → trailingZeros 64 (2 ^ 64 - 1 - l .low) ≡ firstBelow placeCount (λ p. not (litBit l p))
+  pub unlit-low : trailingZeros 64 (2 ^ 64 - 1 - l .low) < 64 → trailingZeros 64 (2 ^ 64 - 1 - l .low) ≡ unlitBy l
+  unfolding unlitBy
   unlit-low h = first-low ∙ sym (first-bound 64 placeCount (λ p. not (litBit l p)) (omega (arith, first-low)) (omega (arith, first-low)))
 
   -- and else the high word's
-  pub unlit-high : 64 ≤ trailingZeros 64 (2 ^ 64 - 1 - l .low) → 64 + trailingZeros 64 (2 ^ 64 - 1 - l .high) ≡ firstBelow placeCount (λ p. not (litBit l p))
+  pub unlit-high : 64 ≤ trailingZeros 64 (2 ^ 64 - 1 - l .low) → 64 + trailingZeros 64 (2 ^ 64 - 1 - l .high) ≡ unlitBy l
+  unfolding unlitBy
   unlit-high h = ap (λ (n : ℕ). 64 + n) first-high ∙ sym (first-sum 64 64 (λ p. not (litBit l p)) (omega (arith, first-low)))
 
 -- the words say of each place whether it passes the test that they are made of

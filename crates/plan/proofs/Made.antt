@@ -3,10 +3,8 @@
 use Prim.Native.Nat.{ℕ, _≤_, _<_}
 use mathlib.Core.Path.{_≡_, refl, sym, _∙_}
 use mathlib.Core.Bool.{Bool, true, false}
-use native.Mathlib.Omega.{arith}
 use lib.Dec.{ltb}
 use borrow.Author.Tests.{lt-ltb, le-ltb, ltb-true}
-use Rattle.basis.specs.Choice.{pick}
 use Rattle.basis.proofs.Bools.{and-left}
 use Rattle.limits.specs.Limits.{placeCount}
 use Rattle.lightpath.specs.Place.{directionOf}
@@ -25,10 +23,8 @@ use Rattle.moves.specs.declared.Move.{Move}
 use Rattle.moves.specs.declared.Moves.{Moves}
 use Rattle.steps.specs.Plan.{movesTo, joining, lighting, oneMove, twoMoves, threeMoves}
 use Rattle.steps.specs.Steps.{nowhere, standsRight, exchanging, rearranging}
-use Rattle.survey.specs.Survey.{unlitBy}
-use Rattle.survey.specs.declared.Survey.{Survey}
 use Rattle.pairs.specs.declared.Found.{Found}
-use Rattle.plan.specs.Planned.{Planned, Plans, Roomy, Movable}
+use Rattle.plan.specs.Planned.{Planned, Plans, Movable}
 
 -- a plan of these parts, which takes place p
 abbrev parts : ℕ → Changes → Moves → ℕ → Planned
@@ -83,19 +79,6 @@ module _ (c : Circuit) where
       pub made-neither-stays : q ≡ false → o ≡ false → Plans (exchanging c x a b k) r → Plans (rearranging N c x a b k) r
       made-neither-stays e f h = rw (← is, e, ← so, f) h
 
-  -- steps 1 and 2 by their test
-  module _ (m : ℕ) (v : Survey) (r : Planned) where
-    pub made-placed-one : v .join .place < m → Plans (joining c (v .join)) r → Plans (pick (ltb (v .join .place) m) (joining c (v .join)) (lighting c (unlitBy v))) r
-    made-placed-one l h = rw (lt-ltb (v .join .place) m l) h
-
-    pub made-placed-two : (u : ℕ) → m ≤ v .join .place → u ≡ unlitBy v → Plans (lighting c u) r
-        → Plans (pick (ltb (v .join .place) m) (joining c (v .join)) (lighting c (unlitBy v))) r
-    made-placed-two u l e h = rw (le-ltb (v .join .place) m l, ← e) h
-
--- where there is room and nothing to join, the unlit place is one that there is
-pub room-below : (m : ℕ) (v : Survey) (u : ℕ) → Roomy m v → m ≤ v .join .place → u ≡ unlitBy v → u < placeCount
-room-below m v u room l e = let h = room .unlit l in omega (arith, e, room .low)
-
 -- whether one stands right, by its place
 pub right-way : (N : ℕ) (a b x : Standing) (w : Direction) (r : Bool) → x .place < placeCount → w ≡ directionOf (x .place) → r ≡ canShare N w (a .circuit) (b .circuit)
     → r ≡ standsRight N a b x
@@ -120,9 +103,6 @@ pub ruleset made = (
   made-first-stays,
   made-second-stays,
   made-neither-stays,
-  made-placed-one,
-  made-placed-two,
-  room-below,
   right-way,
   right-there,
   both-there,

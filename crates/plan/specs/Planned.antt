@@ -1,9 +1,8 @@
 -- A plan of steps 1 to 3 by value, and what the steps count on in what was found. Assumes nothing. Serves proofs inside only.
-use Prim.Native.Nat.{ℕ, _≤_, _<_}
+use Prim.Native.Nat.{ℕ, _<_}
 use mathlib.Core.Path.{_≡_}
 use mathlib.Core.Bool.{true}
 use mathlib.Core.List.{List, [], _∷_}
-use Rattle.limits.specs.Limits.{placeCount}
 use Rattle.slots.specs.declared.Slot.the-variants.{Unlit as unlit}
 use Rattle.channels.specs.declared.Change.{Change}
 use Rattle.channels.specs.declared.Changes.{Changes}
@@ -12,8 +11,6 @@ use Rattle.channels.specs.Changes.{oneChange, twoChanges, threeChanges, Placed}
 use Rattle.moves.specs.Records.{movesOf}
 use Rattle.steps.specs.Plan.{Plan}
 use Rattle.steps.specs.Steps.{nowhere, standsRight}
-use Rattle.survey.specs.Survey.{unlitBy}
-use Rattle.survey.specs.declared.Survey.{Survey}
 use Rattle.pairs.specs.declared.Found.{Found}
 pub use Rattle.plan.specs.declared.Planned.{Planned}
 
@@ -32,11 +29,6 @@ plannedOf plan = record { changes = changesOf (plan .changes); place = record { 
 pub record Plans (plan : Plan) (r : Planned) : Type 0 where
   pub is : r ≡ plannedOf plan
   pub there : Placed (r .changes)
-
--- step 1 or step 2 has a place below the limit m
-pub record Roomy (m : ℕ) (v : Survey) : Type 0 where
-  pub low : m ≤ placeCount
-  pub unlit : m ≤ v .join .place → unlitBy v < m
 
 -- what step 3 counts on in what was found
 pub record Movable (N : ℕ) (f : Found) : Type 0 where

@@ -1,26 +1,27 @@
-// Plans by value: what each of document 01's steps does with what was found for a new circuit. A plan needs no places, only what was seen of
-// them; the places are changed by whoever holds them.
+// Plans by value: the first of document 01's steps that serves a new circuit, and what each does with what was found for it. The places are
+// changed by whoever holds them.
 
 ghost use mathlib.Core.Path.{_≡_};
 ghost use Prim.Native.Nat.{_<_};
-ghost use lib.Dec.{ltb};
-ghost use Rattle.basis.specs.Choice.{pick};
 ghost use Rattle.limits.specs.Limits.{placeCount};
-ghost use Rattle.steps.specs.Plan.{joining, lighting};
-ghost use Rattle.survey.specs.Survey.{unlitBy};
-ghost use Rattle.plan.specs.Planned.{Plans, Roomy};
+ghost use Rattle.steps.specs.Steps.{planOf};
+ghost use Rattle.steps.specs.Ready.{Ready};
+ghost use Rattle.survey.specs.Survey.{surveyOf};
+ghost use Rattle.plan.specs.Planned.{Plans};
 
 mod plan;
 mod rearrange;
 
 use channels::Changes;
+use channels::Channel;
 use lightpath::Circuit;
 use lightpath::Place;
+use limits::PLACE_COUNT;
 use moves::Moves;
 use plan::joined;
 use plan::lighted;
 pub use plan::moves_to;
-pub use rearrange::rearranged;
+use rearrange::rearranged;
 pub use rearrange::stands_right;
 use survey::Survey;
 
@@ -47,14 +48,25 @@ impl Planned {
     }
 }
 
-// Steps 1 and 2, where one of them finds a place below the limit.
-pub fn placed(limit: usize, circuit: Circuit, seen: Survey) -> Planned
-    requires { ⌜ Roomy limit seen ⌝ }
-    ensures { λ r. ⌜ Plans (pick (ltb (seen .join .place) limit) (joining circuit (seen .join)) (lighting circuit (unlitBy seen))) r ⌝ }
+// The plan of the first step that serves a circuit. Step 3's search is made where steps 1 and 2 find no place, and only there.
+pub fn plan_for(
+    nodes: u8,
+    limit: usize,
+    channels: [Channel; PLACE_COUNT],
+    circuit: Circuit,
+    seen: Survey,
+) -> Planned
+    requires { ⌜ Ready nodes limit channels circuit × (seen ≡ surveyOf nodes limit channels circuit) ⌝ }
+    ensures { λ r. ⌜ Plans (planOf nodes limit channels circuit) r ⌝ }
 {
     let join = seen.join;
     if join.place < limit {
         return joined(circuit, join);
     }
-    lighted(circuit, seen.lowest_unlit())
+    let unlit = seen.unlit_place(nodes, limit, circuit);
+    if unlit < limit {
+        return lighted(circuit, unlit);
+    }
+    let found = pairs::found_for(nodes, limit, channels, circuit);
+    rearranged(nodes, circuit, found)
 }

@@ -36,7 +36,7 @@ abbrev pub closeLine : ℕ → Verdict → List ℕ
 closeLine n granted = lineOf (("close ", n) ∷ [])
 closeLine n (refused r) = lineOf (("close refused ", numberOf r) ∷ [])
 
--- `open 11 place 0 moves 0 looks 0`, or `open 16 refused 13`
+-- `open 11 place 1 moves 0 looks 0`, or `open 16 refused 13`
 abbrev pub servedLine : ℕ → ℕ → ℕ → ℕ → List ℕ
 servedLine n place moves looks = lineOf (("open ", n) ∷ (" place ", place) ∷ (" moves ", moves) ∷ (" looks ", looks) ∷ [])
 

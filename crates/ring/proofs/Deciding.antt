@@ -84,7 +84,7 @@ module _ (t : RingTable) (c : Circuit) (n : ℕ) (rules : meetsRules t ≡ true)
   decide-granted v d e h k = k ∙ sym (decided (judged (usedCauses t c)) (judged-past named (usedCauses t c) (sym e ∙ h)))
 
   -- a request that no cause meets is one that the ports permit
-  permits : judged (openCauses t c n) ≡ granted → Allowable (t .nodes) (t .ports) (t .channels) c
+  pub permits : judged (openCauses t c n) ≡ granted → Allowable (t .nodes) (t .ports) (t .channels) c
   permits e = allowable t c (granted-rest (ShortList if ltb n leastRecords) (requestCauses t c) e)
 
   -- the pair that step 3 finds

@@ -7,7 +7,6 @@ ghost use Rattle.ports.specs.Ports.{limitOf};
 ghost use Rattle.steps.specs.Steps.{planOf};
 ghost use Rattle.steps.specs.Ready.{Ready};
 ghost use Rattle.survey.specs.Survey.{surveyOf};
-ghost use Rattle.plan.specs.Planned.{Plans};
 ghost use Rattle.refusals.specs.Refusal.{judged};
 ghost use Rattle.refusals.specs.Answer.{answerBy};
 ghost use Rattle.refusals.specs.declared.Verdict.the-variants.{Granted as granted};
@@ -23,38 +22,23 @@ use crate::Opening;
 use crate::RingTable;
 use lightpath::Circuit;
 use moves::Moves;
-use plan::Planned;
 use refusals::Refusal;
 use refusals::Verdict;
 use survey::Survey;
 
 impl RingTable {
-    // The plan of the first step that serves the circuit. Step 3's search is made where steps 1 and 2 find no place, and only there.
-    fn plan(self, circuit: Circuit, limit: usize, seen: Survey) -> Planned
-        requires { ⌜ Ready (self .nodes) limit (self .channels) circuit × (seen ≡ surveyOf (self .nodes) limit (self .channels) circuit) ⌝ }
-        ensures { λ r. ⌜ Plans (planOf (self .nodes) limit (self .channels) circuit) r ⌝ }
-    {
-        if seen.has_room(limit) {
-            return plan::placed(limit, circuit, seen);
-        }
-        let nodes = self.nodes;
-        let channels = self.channels;
-        let found = pairs::found_for(nodes, limit, channels, circuit);
-        plan::rearranged(nodes, circuit, found)
-    }
-
     // The plan is carried out: its places are changed, here and nowhere else.
     fn serve(self, circuit: Circuit, limit: usize, seen: Survey) -> Decision
         requires { ⌜ (limit ≡ limitOf (self .ports)) × Ready (self .nodes) limit (self .channels) circuit × (seen ≡ surveyOf (self .nodes) limit (self .channels) circuit) ⌝ }
         ensures { λ r. ⌜ r ≡ carriedOut self (planOf (self .nodes) (limitOf (self .ports)) (self .channels) circuit) ⌝ }
     {
-        let planned = self.plan(circuit, limit, seen);
-        let changes = planned.changes;
-        let place = planned.place;
-        let moves = planned.moves;
         let nodes = self.nodes;
         let ports = self.ports;
         let channels = self.channels;
+        let planned = plan::plan_for(nodes, limit, channels, circuit, seen);
+        let changes = planned.changes;
+        let place = planned.place;
+        let moves = planned.moves;
         let channels = channels::changed(channels, changes);
         Decision {
             opened: Opened {

@@ -7,7 +7,7 @@ use mathlib.Core.List.{List, [], _∷_, _++_, map}
 use lib.ListN.{replicate}
 use Rattle.lightpath.specs.Circuit.{ahead}
 use Rattle.lit_words.specs.Lit.{noneLitFrom}
-use Rattle.steps.specs.Steps.{planOf}
+use Rattle.steps.specs.Steps.{unlitPlace, planOf}
 use Rattle.ring.specs.Making.{makeOf}
 use Rattle.ring.specs.Opening.{decideOf}
 use Rattle.ring.specs.Closing.{closeOf}
@@ -42,38 +42,38 @@ script =
 abbrev output : List String
 output =
     "ring 5 wavelengths 2"
-    ∷ "open 11 place 0 moves 0 looks 0"
-    ∷ "open 12 place 1 moves 0 looks 0"
-    ∷ "open 13 place 2 moves 0 looks 0"
-    ∷ "open 14 place 1 moves 0 looks 0"
+    ∷ "open 11 place 1 moves 0 looks 0"
+    ∷ "open 12 place 0 moves 0 looks 0"
+    ∷ "open 13 place 1 moves 0 looks 0"
+    ∷ "open 14 place 0 moves 0 looks 0"
     ∷ "open 15 place 3 moves 0 looks 0"
     ∷ "open 16 refused 13"
     ∷ "close 13"
-    ∷ "open 16 place 3 moves 0 looks 0"
+    ∷ "open 16 place 1 moves 0 looks 0"
     ∷ []
 
 -- examples/three-moves.script, and its output
 abbrev moving : List String
 moving =
-    "ring 5 1 1 1 1 1"
-    ∷ "open 21 5 4 0 0"
-    ∷ "open 22 1 2 0 0"
-    ∷ "open 23 4 1 0 0"
-    ∷ "open 24 2 3 0 0"
-    ∷ "open 25 3 5 0 0"
+    "ring 6 1 1 1 1 1 1"
+    ∷ "open 21 1 2 0 0"
+    ∷ "open 22 3 6 0 0"
+    ∷ "open 23 4 5 0 0"
+    ∷ "open 24 5 3 0 0"
+    ∷ "open 25 6 4 0 0"
     ∷ []
 
 abbrev moved : List String
 moved =
-    "ring 5 wavelengths 2"
+    "ring 6 wavelengths 2"
     ∷ "open 21 place 0 moves 0 looks 0"
-    ∷ "open 22 place 1 moves 0 looks 0"
-    ∷ "open 23 place 2 moves 0 looks 0"
+    ∷ "open 22 place 2 moves 0 looks 0"
+    ∷ "open 23 place 1 moves 0 looks 0"
     ∷ "open 24 place 3 moves 0 looks 0"
-    ∷ "open 25 place 2 moves 3 looks 2"
-    ∷ "move 22 from 1 to 0"
+    ∷ "open 25 place 3 moves 3 looks 6"
     ∷ "move 21 from 0 to 1"
-    ∷ "move 23 from 2 to 1"
+    ∷ "move 23 from 1 to 0"
+    ∷ "move 24 from 3 to 0"
     ∷ []
 
 abbrev cases : List (List ℕ × List ℕ)
@@ -101,5 +101,5 @@ cases =
 
 -- each script prints what the table says
 pub cases-printed : map (λ c. scriptText (c .0)) cases ≡ map (λ c. c .1) cases
-unfolding scriptText linesText linesAfter runRing runOpen runClose piece moveLine parseLine parseWords parseRing parseOpen parseClose portsAfter field wordsAfter number numberAfter decimal digitsUpTo makeOf decideOf closeOf planOf ahead noneLitFrom
+unfolding scriptText linesText linesAfter runRing runOpen runClose piece moveLine parseLine parseWords parseRing parseOpen parseClose portsAfter field wordsAfter number numberAfter decimal digitsUpTo makeOf decideOf closeOf unlitPlace planOf ahead noneLitFrom
 cases-printed = refl

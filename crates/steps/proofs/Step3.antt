@@ -23,7 +23,8 @@ use Rattle.rules.proofs.Lane.{alone-exists}
 use Rattle.rules.proofs.Full.{table-full}
 use Rattle.steps.specs.Steps.{newcomer, candidates, passed, lowestAlone}
 use Rattle.steps.specs.Ready.{Ready}
-use Rattle.steps.proofs.Searches.{none-unlit, lowest-found}
+use Rattle.steps.proofs.Searches.{lowest-found}
+use Rattle.steps.proofs.ShorterWay.{none-unlit}
 
 -- the places of the wavelengths below W are those below 2 × W
 place-low : (w W : ℕ) (d : Direction) → w < W → placeOf w d < 2 * W

@@ -27,7 +27,8 @@ use Rattle.rules.proofs.Allowable.{Allowable}
 use Rattle.steps.specs.Plan.{joining, lighting, oneMove, twoMoves, threeMoves}
 use Rattle.steps.specs.Steps.{joinPlace, unlitPlace, nowhere, newcomer, candidates, foundPair, looks, standsRight, lowestAlone, xOf, rearranging, stepThree, planOf}
 use Rattle.steps.proofs.Five.{Good, joined, lighted, one-moved, two-moved, three-moved}
-use Rattle.steps.proofs.Searches.{join-stands, join-can, none-joins, unlit-found, lowest-passes, lowest-direction}
+use Rattle.steps.proofs.Searches.{join-stands, join-can, none-joins, lowest-passes, lowest-direction}
+use Rattle.steps.proofs.ShorterWay.{unlit-found}
 use Rattle.steps.proofs.Candidates.{Candidate, found-couple}
 use Rattle.steps.proofs.Step3.{ready}
 

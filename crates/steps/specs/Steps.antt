@@ -8,9 +8,9 @@ use lib.ListN.{getD}
 use Rattle.basis.specs.Choice.{pick}
 use Rattle.basis.specs.Search.{firstBelow, firstPlace, pairsOf}
 use Rattle.limits.specs.Limits.{placeCount}
-use Rattle.lightpath.specs.Place.{directionOf, sameDirection}
+use Rattle.lightpath.specs.Place.{directionOf, sameDirection, otherWay}
 use Rattle.lightpath.specs.declared.Direction.{Direction}
-use Rattle.lightpath.specs.Circuit.{canShare, shareDirection}
+use Rattle.lightpath.specs.Circuit.{shorterWay, canShare, shareDirection}
 use Rattle.lightpath.specs.declared.Circuit.{Circuit}
 use Rattle.slots.specs.Slot.{isUnlit, isAlone, firstOf}
 use Rattle.slots.specs.declared.Slot.{Slot}
@@ -28,10 +28,19 @@ canJoin N c p s = isAlone s && canShare N (directionOf p) (firstOf s) c
 abbrev pub joinPlace : ℕ → ℕ → Channels → Circuit → ℕ
 joinPlace N m t c = firstBelow m (λ p. canJoin N c p (at t p))
 
--- Step 2. Otherwise it takes the lowest unlit place below 2 × W. This rule does not ask for N and c; document 02's request E6 does.
+-- Step 2. Otherwise it takes the lowest unlit place below 2 × W in the direction where the circuit uses fewer links, clockwise when equal, and
+-- goes to the other direction only if none is unlit (02, E6). The lowest place of direction d whose content passes a test, or m where there is
+-- none,
+abbrev pub lowestIn : (Slot → Bool) → ℕ → Channels → Direction → ℕ
+lowestIn f m t d = firstBelow m (λ p. f (at t p) && sameDirection (directionOf p) d)
 
-abbrev pub unlitPlace : ℕ → ℕ → Channels → Circuit → ℕ
-unlitPlace N m t c = firstBelow m (λ p. isUnlit (at t p))
+-- the lowest unlit one of direction d, or where there is none of the other direction,
+abbrev pub unlitPreferring : ℕ → Channels → Direction → ℕ
+unlitPreferring m t d = pick (ltb (lowestIn isUnlit m t d) m) (lowestIn isUnlit m t d) (lowestIn isUnlit m t (otherWay d))
+
+-- and step 2's place
+unfoldable pub unlitPlace : ℕ → ℕ → Channels → Circuit → ℕ
+unlitPlace N m t c = unlitPreferring m t (shorterWay N c)
 
 -- Step 3. Otherwise list the nonsharing circuits by rising place, the new one last. It has no place yet and is listed at 128, nowhere:
 
@@ -66,10 +75,6 @@ looks m t c = suc (passed m t c)
 -- whose hops total N both do where both are old (02, E1).
 abbrev pub standsRight : ℕ → Standing → Standing → Standing → Bool
 standsRight N a b x = ltb (x .place) nowhere && canShare N (directionOf (x .place)) (a .circuit) (b .circuit)
-
--- the lowest place of direction d whose content passes a test
-abbrev pub lowestIn : (Slot → Bool) → ℕ → Channels → Direction → ℕ
-lowestIn f m t d = firstBelow m (λ p. f (at t p) && sameDirection (directionOf p) d)
 
 -- 3b. Neither does. Let x be the nonsharing circuit at the lowest place c of direction d: that place,
 abbrev pub lowestAlone : ℕ → Channels → Direction → ℕ

@@ -10,14 +10,12 @@ use lib.ListN.{length, drop, drop-of-length-le}
 use borrow.Author.Tests.{not-true, not-false, lt-ltb, le-ltb}
 use Rattle.basis.specs.Choice.{pick, bit}
 use Rattle.basis.specs.Count.{tally}
-use Rattle.basis.specs.Search.{firstBelow}
 use Rattle.basis.proofs.Arrays.{array-length}
 use Rattle.basis.proofs.Weigh.{bit-most}
-use Rattle.basis.proofs.Below.{first-within, none-within}
 use Rattle.basis.proofs.Descent.{Lowest, lowest-start, lowest-next, lowest-end}
 use Rattle.limits.specs.Limits.{placeCount}
-use Rattle.lightpath.specs.Place.{directionOf}
-use Rattle.lightpath.specs.Circuit.{blankCircuit, canShare}
+use Rattle.lightpath.specs.Place.{directionOf, otherWay}
+use Rattle.lightpath.specs.Circuit.{blankCircuit, shorterWay, canShare}
 use Rattle.lightpath.specs.declared.Direction.{Direction}
 use Rattle.lightpath.specs.declared.Circuit.{Circuit}
 use Rattle.slots.specs.Slot.{held, isUnlit, isLit, isAlone, firstOf}
@@ -25,6 +23,7 @@ use Rattle.slots.specs.declared.Slot.{Slot}
 use Rattle.slots.specs.declared.Slot.the-variants.{Unlit as unlit}
 use Rattle.slots.proofs.Contents.{is-unlit, unlit-not}
 use Rattle.lit_words.specs.Lit.{noneLitFrom}
+use Rattle.lit_words.specs.Unlit.{unlitIn}
 use Rattle.lit_words.specs.With.{withPlace}
 use Rattle.lit_words.specs.declared.Lit.{Lit}
 use Rattle.lit_words.proofs.NoneLit.{none-lit-at}
@@ -35,7 +34,7 @@ use Rattle.channels.proofs.Places.{weigh-from, weigh-most}
 use Rattle.channels.proofs.LitPlaces.{unlit-words}
 use Rattle.ports_used.specs.PortsUsed.{sends, receives}
 use Rattle.steps.specs.Steps.{canJoin, joinPlace, unlitPlace}
-use Rattle.survey.specs.Survey.{Survey, Pass, standingBelow, surveyOf, unlitBy, passWith, Takes}
+use Rattle.survey.specs.Survey.{Survey, Pass, standingBelow, surveyOf, unlitSeen, passWith, Takes}
 
 -- a count of the places from p on, with the place under them
 count-next : (key : Circuit → ℕ) (k : ℕ) (t : Channels) (p n : ℕ) → n ≡ tally key k (circuits (drop p t)) → 0 < p → p ≤ length t
@@ -201,6 +200,16 @@ module _ (N m : ℕ) (t : Channels) (c : Circuit) (long : length t ≡ placeCoun
 -- for `search (needs, seen)`
 pub ruleset seen = (array-length, seen-start, seen-room, seen-next, seen-joined, seen-none)
 
+-- step 2's place by the words: the lowest unlit one of the shorter way, else of the other
+module _ (N m : ℕ) (c : Circuit) (v : Survey) (d : Direction) (p : ℕ) (way : d ≡ shorterWay N c) (near : p ≡ unlitIn (v .lit) d m) where
+  pub unlit-near : p < m → p ≡ unlitSeen N m c v
+  unfolding unlitSeen
+  unlit-near l = rw (← way, ← near, lt-ltb p m l)
+
+  pub unlit-far : (e : Direction) (q : ℕ) → m ≤ p → e ≡ otherWay d → q ≡ unlitIn (v .lit) e m → q ≡ unlitSeen N m c v
+  unfolding unlitSeen
+  unlit-far e q l o far = rw (← way, ← near, le-ltb p m l, ← o) far
+
 -- what steps 1 and 2 take from the survey
 module _ (N m : ℕ) (t : Channels) (c : Circuit) (v : Survey) (e : v ≡ surveyOf N m t c) where
   -- step 1's circuit, where there is one
@@ -223,12 +232,7 @@ module _ (N m : ℕ) (t : Channels) (c : Circuit) (v : Survey) (e : v ≡ survey
           omega arith
       go (no n) = omega arith
 
-  lowest-unlit : unlitBy v ≡ firstBelow placeCount (λ p. isUnlit (at t p))
-  lowest-unlit = ap unlitBy e ∙ unlit-words t
-
   -- step 2's place
-  pub seen-unlit : m ≤ placeCount → unlitBy v < m → unlitBy v ≡ unlitPlace N m t c
-  seen-unlit l h = first-within m placeCount (λ p. isUnlit (at t p)) (unlitBy v) lowest-unlit l h
-
-  pub seen-full : m ≤ unlitBy v → m ≤ unlitPlace N m t c
-  seen-full h = omega (arith, none-within m placeCount (λ p. isUnlit (at t p)) (unlitBy v) lowest-unlit h)
+  pub seen-unlit : m ≤ placeCount → (u : ℕ) → u ≡ unlitSeen N m c v → u ≡ unlitPlace N m t c
+  unfolding unlitPlace unlitSeen
+  seen-unlit l u is = is ∙ rw (e, unlit-words t (shorterWay N c) m l, unlit-words t (otherWay (shorterWay N c)) m l)

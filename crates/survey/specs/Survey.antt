@@ -1,16 +1,16 @@
 -- What one pass over the places finds for a new circuit: what its number and its ports are tested by, and what steps 1 and 2 look for.
 -- Assumes nothing. Serves proofs inside only.
 use Prim.Native.Nat.{ℕ, _+_, _≤_}
-use mathlib.Core.Bool.{_&&_, not}
+use mathlib.Core.Bool.{_&&_}
 use lib.Dec.{ltb}
 use Rattle.basis.specs.Choice.{pick}
-use Rattle.basis.specs.Search.{firstBelow}
-use Rattle.limits.specs.Limits.{placeCount, circuitRoom}
-use Rattle.lightpath.specs.Circuit.{blankCircuit}
+use Rattle.limits.specs.Limits.{circuitRoom}
+use Rattle.lightpath.specs.Place.{otherWay}
+use Rattle.lightpath.specs.Circuit.{blankCircuit, shorterWay}
 use Rattle.lightpath.specs.declared.Circuit.{Circuit}
 use Rattle.slots.specs.Slot.{held, isLit}
 use Rattle.slots.specs.declared.Slot.{Slot}
-use Rattle.lit_words.specs.Lit.{litBit}
+use Rattle.lit_words.specs.Unlit.{unlitIn}
 use Rattle.lit_words.specs.With.{withPlace, RoomFor}
 use Rattle.channels.specs.Channels.{Channels, circuits, numbered, litOf}
 use Rattle.channels.specs.Nonsharing.{standingAt}
@@ -35,9 +35,11 @@ surveyOf N m t c = record {
   lit = litOf t;
 }
 
--- the lowest place that is unlit by a survey's words
-abbrev pub unlitBy : Survey → ℕ
-unlitBy v = firstBelow placeCount (λ p. not (litBit (v .lit) p))
+-- step 2's place by a survey's words
+unfoldable pub unlitSeen : ℕ → ℕ → Circuit → Survey → ℕ
+unlitSeen N m c v =
+    let d = shorterWay N c in
+    pick (ltb (unlitIn (v .lit) d m) m) (unlitIn (v .lit) d m) (unlitIn (v .lit) (otherWay d) m)
 
 -- what was seen of the places above p, with place p, which has the content s
 abbrev pub passWith : ℕ → ℕ → Circuit → ℕ → Slot → Pass → Pass

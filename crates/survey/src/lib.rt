@@ -2,7 +2,7 @@
 // that of two circuits that the new one can join it keeps the lower. Every circuit counts, and only those below the limit are joined.
 
 ghost use mathlib.Core.Path.{_≡_};
-ghost use mathlib.Core.Bool.{true, _&&_, _||_};
+ghost use mathlib.Core.Bool.{true, _&&_};
 ghost use Prim.Native.Nat.{_<_, _≤_};
 ghost use lib.Dec.{ltb};
 ghost use Rattle.basis.specs.Choice.{pick};
@@ -10,7 +10,7 @@ ghost use Rattle.limits.specs.Limits.{placeCount};
 ghost use Rattle.lit_words.specs.Lit.{noneLitFrom};
 ghost use Rattle.channels.specs.Channels.{litAt};
 ghost use Rattle.steps.specs.Steps.{canJoin};
-ghost use Rattle.survey.specs.Survey.{surveyOf, unlitBy, passWith, Takes};
+ghost use Rattle.survey.specs.Survey.{surveyOf, unlitSeen, passWith, Takes};
 use channels::Channel;
 use channels::Standing;
 use lightpath::BLANK_CIRCUIT;
@@ -92,18 +92,17 @@ fn lower(test: bool, place: usize, above: usize) -> usize
 }
 
 impl Survey {
-    // Step 2's place: the lowest unlit one.
-    pub fn lowest_unlit(self) -> usize
-        ensures { λ r. ⌜ r ≡ unlitBy self ⌝ }
+    // Step 2's place: the lowest unlit one of the circuit's shorter way, else of the other, or the limit where all are lit.
+    pub fn unlit_place(self, nodes: u8, limit: usize, circuit: Circuit) -> usize
+        requires { ⌜ (0 < nodes) × (limit ≤ placeCount) ⌝ }
+        ensures { λ r. ⌜ r ≡ unlitSeen nodes limit circuit self ⌝ }
     {
-        self.lit.lowest_unlit() as usize
-    }
-
-    // Whether step 1 or step 2 finds a place below the limit.
-    pub fn has_room(self, limit: usize) -> bool
-        ensures { λ r. ⌜ r ≡ (ltb (self .join .place) limit || ltb (unlitBy self) limit) ⌝ }
-    {
-        self.join.place < limit || self.lowest_unlit() < limit
+        let way = circuit.shorter_way(nodes);
+        let near = self.lit.lowest_unlit_in(way, limit);
+        if near < limit {
+            return near;
+        }
+        self.lit.lowest_unlit_in(way.other(), limit)
     }
 }
 

@@ -14,7 +14,18 @@ pub enum Event {
     Step1,
     /// Step 1 with a circuit and its return, which share in this direction.
     Step1Return(Direction),
+    /// Step 1 in this direction, the longer way, though a place of the other one was unlit.
+    Step1Longer(Direction),
     Step2,
+    /// Step 2 in this direction, where the circuit uses fewer links than in the other.
+    Step2Shorter(Direction),
+    /// Step 2 in this direction, with as many links in either; counterclockwise if clockwise is
+    /// full.
+    Step2Equal(Direction),
+    /// Step 2 in this direction, the longer way, as the other one is full.
+    Step2Longer(Direction),
+    /// Step 2 in this direction, though a lower place of the other one was unlit.
+    Step2PassedOver(Direction),
     Step3aBothFit,
     Step3aFirstFits,
     Step3aSecondFits,
@@ -115,11 +126,21 @@ pub enum Event {
 use Event::*;
 
 /// Every event that a script of the script program can show.
-pub const SCRIPT_EVENTS: [Event; 47] = [
+pub const SCRIPT_EVENTS: [Event; 57] = [
     Step1,
     Step1Return(Clockwise),
     Step1Return(Counterclockwise),
+    Step1Longer(Clockwise),
+    Step1Longer(Counterclockwise),
     Step2,
+    Step2Shorter(Clockwise),
+    Step2Shorter(Counterclockwise),
+    Step2Equal(Clockwise),
+    Step2Equal(Counterclockwise),
+    Step2Longer(Clockwise),
+    Step2Longer(Counterclockwise),
+    Step2PassedOver(Clockwise),
+    Step2PassedOver(Counterclockwise),
     Step3aBothFit,
     Step3aFirstFits,
     Step3aSecondFits,
@@ -260,7 +281,33 @@ impl fmt::Display for Event {
             Step1Return(way) => {
                 return write!(f, "  of these: a circuit and its return share {}", word(*way))
             }
+            Step1Longer(way) => {
+                return write!(
+                    f,
+                    "  of these: the longer way, {}, though a place of the shorter is unlit",
+                    word(*way)
+                )
+            }
             Step2 => "step 2",
+            Step2Shorter(way) => return write!(f, "  of these: the shorter way, {}", word(*way)),
+            Step2Equal(Clockwise) => "  of these: both ways equal, clockwise",
+            Step2Equal(Counterclockwise) => {
+                "  of these: both ways equal, counterclockwise, as clockwise is full"
+            }
+            Step2Longer(way) => {
+                return write!(
+                    f,
+                    "  of these: the longer way, {}, as the shorter is full",
+                    word(*way)
+                )
+            }
+            Step2PassedOver(way) => {
+                return write!(
+                    f,
+                    "  of these: {}, past a lower unlit place of the other direction",
+                    word(*way)
+                )
+            }
             Step3aBothFit => "step 3a, both members fit",
             Step3aFirstFits => "step 3a, the first member fits",
             Step3aSecondFits => "step 3a, the second member fits",

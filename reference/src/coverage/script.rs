@@ -1,5 +1,7 @@
 //! What the lines of the script program reach.
 
+use std::cmp::Ordering;
+
 use super::Event::*;
 use super::{shared_places, Before, Coverage, Event};
 use crate::circuit::{can_share, Circuit};
@@ -40,8 +42,10 @@ impl Coverage {
             Answer::RingRefused(refusal) => self.saw(RingRefused(refusal.number())),
             Answer::Opened { number, opening, ref moves } => {
                 let table = table.expect("an opening has a table");
-                self.saw_opening(table, opening, &moves[..opening.moves]);
-                self.saw_accounts(table, number, &moves[..opening.moves]);
+                let opened = table.circuits().find(|circuit| circuit.number == number);
+                let new = opened.expect("an opening sets its circuit up");
+                self.saw_opening(table, new, opening, &moves[..opening.moves]);
+                self.saw_accounts(table, new, &moves[..opening.moves]);
                 self.saw_opening_after_tidying(opening.moves);
             }
             Answer::OpenRefused { refusal, .. } => self.saw(OpenRefused(refusal.number())),
@@ -57,24 +61,35 @@ impl Coverage {
         self.saw_numbers(line);
     }
 
-    fn saw_opening(&mut self, table: &Table, opening: Opening, moves: &[Move]) {
+    fn saw_opening(&mut self, table: &Table, new: Circuit, opening: Opening, moves: &[Move]) {
         self.most_looks = self.most_looks.max(opening.looks);
         match *moves {
-            [] => self.saw_unmoving(table, opening.place),
+            [] => self.saw_unmoving(table, new, opening.place),
             [moved] => self.saw_3a(table, moved),
             [from_c, to_c, ..] => self.saw_3b(table, moves.len(), from_c, to_c),
         }
     }
 
-    /// Steps 1 and 2.
-    fn saw_unmoving(&mut self, table: &Table, place: Place) {
-        match table.pair_at(place) {
-            None => self.saw(Step2),
-            Some((a, b)) => {
-                self.saw(Step1);
-                self.saw_if(a.is_return_of(b), Step1Return(place.direction()));
-            }
+    /// Steps 1 and 2. The places of the other direction are lit or unlit as they were before.
+    fn saw_unmoving(&mut self, table: &Table, new: Circuit, place: Place) {
+        let way = place.direction();
+        let [links, other_links] = [way, way.other()].map(|way| new.links(way, table.nodes));
+        let other_unlit = table.lowest_unlit_in(way.other());
+        if let Some((a, b)) = table.pair_at(place) {
+            self.saw(Step1);
+            self.saw_if(a.is_return_of(b), Step1Return(way));
+            self.saw_if(links > other_links && other_unlit.is_some(), Step1Longer(way));
+            return;
         }
+        self.saw(Step2);
+        let is_liked = (links, way) < (other_links, way.other());
+        assert!(is_liked || other_unlit.is_none(), "the other way is taken where one is full");
+        self.saw(match links.cmp(&other_links) {
+            Ordering::Less => Step2Shorter(way),
+            Ordering::Equal => Step2Equal(way),
+            Ordering::Greater => Step2Longer(way),
+        });
+        self.saw_if(other_unlit.is_some_and(|other| other < place), Step2PassedOver(way));
     }
 
     fn saw_3a(&mut self, table: &Table, Move { from, to, .. }: Move) {
@@ -101,11 +116,9 @@ impl Coverage {
     }
 
     /// The accounts of the circuit opened and of those moved.
-    fn saw_accounts(&mut self, table: &Table, opened: u32, moves: &[Move]) {
-        let opened = table.circuits().find(|circuit| circuit.number == opened);
-        let account = opened.expect("an opening sets its circuit up").account;
-        self.saw_if(account != 0, OpenedWithAccount);
-        self.saw_if(account == u32::MAX, OpenedWithWidestAccount);
+    fn saw_accounts(&mut self, table: &Table, new: Circuit, moves: &[Move]) {
+        self.saw_if(new.account != 0, OpenedWithAccount);
+        self.saw_if(new.account == u32::MAX, OpenedWithWidestAccount);
         self.saw_moved_accounts(table, moves, MovedWithAccount { moves: moves.len() });
     }
 

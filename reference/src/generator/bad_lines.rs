@@ -139,11 +139,13 @@ impl Generator {
         line
     }
 
-    /// Any bytes but LF, or a good line with one byte changed, which may still be good.
+    /// Any bytes but LF, or a good line with one byte changed, which may still be good; where
+    /// programs are timed, it is no ring.
     fn of_any_bytes(&mut self) -> Vec<u8> {
         if self.random.percent(50) {
             let mut line = self.good_line();
-            let at = self.random.below(line.len());
+            let is_ring = line.starts_with(b"ring") && self.kind.is_timed();
+            let at = self.random.below(if is_ring { b"ring".len() } else { line.len() });
             line[at] = *self.random.pick(b"0123456789 aoc-\0\xC3");
             return line;
         }

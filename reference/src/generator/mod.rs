@@ -54,6 +54,11 @@ impl Kind {
         }
     }
 
+    /// Whether programs are timed on such scripts, which are to run on the rings that they name.
+    fn is_timed(self) -> bool {
+        matches!(self, Kind::Large | Kind::Light)
+    }
+
     /// How often, in a thousand lines, other lines than plain traffic come.
     fn odds(self) -> Odds {
         match self {

@@ -3,7 +3,7 @@
 use super::rings::Shape;
 use crate::circuit::{can_share, Circuit};
 use crate::opening::{Move, Opening, MOVES_MOST};
-use crate::place::{Direction, Place};
+use crate::place::Place;
 use crate::random::Random;
 use crate::script::Request;
 use crate::table::{wavelengths_for, Lightpath, Table, NODES_MOST};
@@ -119,16 +119,28 @@ impl Tide {
         live_number(table, random).unwrap_or_else(|| number(random))
     }
 
-    /// The numbers of those that share; where returns are sold and some of them have a partner
-    /// whose return stands alone, only these.
+    /// The numbers of those that share whose closing is worth most.
     fn partings(&self, table: &Table) -> Vec<u32> {
-        let has_return_alone =
-            |circuit: Circuit| table.nonsharing().any(|old| old.circuit.is_return_of(circuit));
-        let sharing = table.pairs().flat_map(|(_, a, b)| [(a, b), (b, a)]);
-        let (apart, others): (Vec<_>, Vec<_>) =
-            sharing.partition(|(_, partner)| self.returns > 0 && has_return_alone(*partner));
-        let partings = if apart.is_empty() { others } else { apart };
-        partings.iter().map(|(circuit, _)| circuit.number).collect()
+        let mut partings = Vec::new();
+        for (place, a, b) in table.pairs() {
+            for (closed, left) in [(a, b), (b, a)] {
+                partings.push((self.worth_alone(table, left, place), closed.number));
+            }
+        }
+        let most = partings.iter().map(|&(worth, _)| worth).max();
+        partings.retain(|&(worth, _)| Some(worth) == most);
+        partings.into_iter().map(|(_, number)| number).collect()
+    }
+
+    /// What a closing is worth that leaves this circuit alone: most where returns are sold and its
+    /// return stands alone too, some where it runs the longer way and will be hard to join.
+    fn worth_alone(&self, table: &Table, left: Circuit, place: Place) -> usize {
+        let is_return = |old: Lightpath| old.circuit.is_return_of(left);
+        if self.returns > 0 && table.nonsharing().any(is_return) {
+            2
+        } else {
+            usize::from(is_long(table.nodes, left, place))
+        }
     }
 }
 
@@ -150,11 +162,7 @@ fn worth(table: &Table, circuit: Circuit) -> usize {
 
 /// Whether the lightpath runs over more than half of the ring, so that few others can join it.
 fn is_long(nodes: u8, circuit: Circuit, place: Place) -> bool {
-    let hops = circuit.hops(nodes);
-    match place.direction() {
-        Direction::Clockwise => 2 * hops > nodes,
-        Direction::Counterclockwise => 2 * hops < nodes,
-    }
+    2 * circuit.links(place.direction(), nodes) > nodes
 }
 
 /// An opening or closing that is refused, or at least a likely one.
@@ -217,11 +225,12 @@ impl Ends {
         has_both.then(|| Ends { sources, destinations, returns: Vec::new() })
     }
 
-    /// Leaves the ways from the first quarter of the nodes to the second, if there are some,
-    /// and then those within the other half.
+    /// Leaves the ways from a quarter of the nodes, in the middle of the first half, to the others of
+    /// that half on either side, if there are some, and then those within the other half.
     fn keep_apart(&mut self, quarter: u8) {
-        let sends = |&node: &u8| node <= quarter;
-        let receives = |&node: &u8| node > quarter && node <= 2 * quarter;
+        let before = quarter / 2;
+        let sends = |&node: &u8| node > before && node <= before + quarter;
+        let receives = |node: &u8| *node <= 2 * quarter && !sends(node);
         let does_both = |&node: &u8| node > 2 * quarter;
         let Ends { sources, destinations, .. } = self;
         if sources.iter().any(sends) && destinations.iter().any(receives) {

@@ -1,6 +1,9 @@
 //! Circuits, rings and tables for the tests, of which each test file uses some.
 #![allow(dead_code)]
 
+use std::io::Write;
+use std::process::{Command, Output, Stdio};
+
 use ring::circuit::Circuit;
 use ring::coverage::Coverage;
 use ring::form::{write, FORM_MOST};
@@ -133,6 +136,20 @@ pub fn read_line(table: &Table) -> String {
     let mut form = [0; FORM_MOST];
     let length = write(table, &mut form).unwrap();
     format!("read {}", hexadecimal(&form[..length]))
+}
+
+/// Runs a program to be timed, given by its path, on a form.
+pub fn run_on_form(program: &str, arguments: &[&str], form: &[u8]) -> Output {
+    let mut running = Command::new(program)
+        .args(arguments)
+        .stdin(Stdio::piped())
+        .stdout(Stdio::piped())
+        .stderr(Stdio::piped())
+        .spawn()
+        .unwrap();
+    // With bad arguments the form is not read.
+    let _ = running.stdin.take().unwrap().write_all(form);
+    running.wait_with_output().unwrap()
 }
 
 /// What the planner's lines reach.
