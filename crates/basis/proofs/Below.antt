@@ -25,7 +25,7 @@ pub count-sum : (k m : ℕ) (f : ℕ → Bool) → countBelow (k + m) f ≡ coun
 count-sum zero m f = simp zero-add
 count-sum (suc k) m f = simp (suc-add, count-sum k m (λ p. f (suc p)), add-assoc)
 
--- how many numbers pass two tests, counted together, where each number passes as many of the one two as of the other two
+-- two tests count together what two others do, where each number passes as many of the one two as of the other two
 pub count-balance : (n : ℕ) (f g h k : ℕ → Bool) → ((p : ℕ) → p < n → bit (f p) + bit (g p) ≡ bit (h p) + bit (k p))
     → countBelow n f + countBelow n g ≡ countBelow n h + countBelow n k
 count-balance zero f g h k e = refl

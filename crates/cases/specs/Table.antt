@@ -287,7 +287,7 @@ a23 = circuit 1 2 3
 abbrev b32 : Circuit
 b32 = circuit 2 3 2
 
--- four circuits of which 1→4, 1→6 and 6→1 can join none, at every clockwise place and at every counterclockwise one
+-- four circuits that fill one direction of this ring; 1→4, 1→6 and 6→1 can join none of them
 abbrev fill1 : Slot
 fill1 = alone (circuit 31 2 3)
 

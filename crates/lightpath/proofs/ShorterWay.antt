@@ -34,7 +34,8 @@ picked-second true e = cc
 picked-second false e = refl
 
 module _ (N : ℕ) (c : Circuit) where
-  -- what each direction says of the links, where it is the shorter way
+  -- what each direction says of the links, where it is the shorter way. A strict test is read too, so that a definition with one fails by
+  -- the numbers for which this does not hold
   clockwise-fewer : shorterWay N c ≡ clockwise → linksUsed N clockwise c ≤ linksUsed N counterclockwise c
   clockwise-fewer e = omega (arith, picked-first (shortClockwise N c) e, leb-true, ltb-true)
 

@@ -32,7 +32,7 @@ module _ (N m : ℕ) (t : Channels) (c : Circuit) (v : Survey) (e : v ≡ survey
 
   -- where it finds none, step 2 has the place u
   module _ (j : m ≤ v .join .place) (u : ℕ) (is : u ≡ unlitSeen N m c v) where
-    abbrev same : u ≡ unlitPlace N m t c
+    same : u ≡ unlitPlace N m t c
     same = seen-unlit N m t c v e (ready .low) u is
 
     pub plan-lights : (p : Planned) → u < m → Plans (lighting c u) p → Plans (planOf N m t c) p

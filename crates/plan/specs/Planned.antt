@@ -1,4 +1,4 @@
--- A plan of steps 1 to 3 by value, and what the steps count on in what was found. Assumes nothing. Serves proofs inside only.
+-- A plan of steps 1 to 3 by value, and what step 3 counts on in what was found. Assumes nothing. Serves proofs inside only.
 use Prim.Native.Nat.{ℕ, _<_}
 use mathlib.Core.Path.{_≡_}
 use mathlib.Core.Bool.{true}

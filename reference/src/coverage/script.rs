@@ -82,8 +82,8 @@ impl Coverage {
             return;
         }
         self.saw(Step2);
-        let is_liked = (links, way) < (other_links, way.other());
-        assert!(is_liked || other_unlit.is_none(), "the other way is taken where one is full");
+        let is_first = (links, way) < (other_links, way.other());
+        assert!(is_first || other_unlit.is_none(), "step 2 tries the shorter way first");
         self.saw(match links.cmp(&other_links) {
             Ordering::Less => Step2Shorter(way),
             Ordering::Equal => Step2Equal(way),
