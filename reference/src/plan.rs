@@ -11,11 +11,12 @@ use crate::files;
 use crate::form::{self, form_of};
 use crate::grid::FrequencyPlan;
 use crate::lines::{for_each_line, number, signed_number, words};
+use crate::lookup::circuits_from;
 use crate::opening::Move;
 use crate::place::Wavelength;
 use crate::refusal::Refusal;
 use crate::report;
-use crate::script::{self, four_bytes, write_move, Desk, Request};
+use crate::script::{self, byte, four_bytes, write_move, Desk, Request};
 use crate::table::{Lightpath, Table};
 use crate::tidying::RECORDS_LEAST;
 
@@ -48,6 +49,7 @@ pub enum Question {
     Load,
     Link { link: u64, wavelength: u64, direction: u64 },
     Circuits,
+    From { node: u8 },
 }
 
 #[derive(Clone, PartialEq, Eq, Debug)]
@@ -79,6 +81,12 @@ pub enum Answer {
     LinkRefused(Refusal),
     /// By rising place, the lower number first.
     Circuits(Vec<Lightpath>),
+    /// Those that the node sends, by rising number.
+    From {
+        node: u8,
+        lightpaths: Vec<Lightpath>,
+    },
+    FromRefused(Refusal),
 }
 
 const LINE_REFUSED: Answer = Answer::Script(script::Answer::LineRefused);
@@ -175,6 +183,10 @@ impl Question {
                 }
             }
             Question::Circuits => Answer::Circuits(table.lightpaths().collect()),
+            &Question::From { node } => match circuits_from(table, node) {
+                Ok(lightpaths) => Answer::From { node, lightpaths },
+                Err(refusal) => Answer::FromRefused(refusal),
+            },
         }
     }
 }
@@ -221,6 +233,7 @@ pub fn parse(line: &[u8]) -> Option<Command> {
             direction: number(words.next()?, u64::MAX)?,
         }),
         b"circuits" => Command::Ask(Question::Circuits),
+        b"from" => Command::Ask(Question::From { node: byte(words.next()?)? }),
         _ => return script::parse(line).map(Command::Script),
     };
     match words.next() {
@@ -305,6 +318,11 @@ impl Answer {
                 writeln!(out, "circuits {}", lightpaths.len())?;
                 lightpaths.iter().try_for_each(|lightpath| write_lightpath(lightpath, out))
             }
+            Answer::From { node, lightpaths } => {
+                writeln!(out, "from {node} circuits {}", lightpaths.len())?;
+                lightpaths.iter().try_for_each(|lightpath| write_sent(lightpath, out))
+            }
+            Answer::FromRefused(refusal) => writeln!(out, "from refused {}", refusal.number()),
         }
     }
 }
@@ -313,6 +331,12 @@ fn write_lightpath(lightpath: &Lightpath, out: &mut impl Write) -> io::Result<()
     let Circuit { number, source, destination, remark, account } = lightpath.circuit;
     write!(out, "circuit {number} from {source} to {destination} ")?;
     writeln!(out, "remark {remark} account {account} place {}", lightpath.place.0)
+}
+
+/// A circuit among those of its source.
+fn write_sent(lightpath: &Lightpath, out: &mut impl Write) -> io::Result<()> {
+    let Circuit { number, destination, .. } = lightpath.circuit;
+    writeln!(out, "circuit {number} to {destination} place {}", lightpath.place.0)
 }
 
 /// The bytes as pairs of digits, as a line gives a saved form.

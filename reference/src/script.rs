@@ -162,7 +162,7 @@ pub fn parse(line: &[u8]) -> Option<Request> {
     }
 }
 
-fn byte(word: &[u8]) -> Option<u8> {
+pub(crate) fn byte(word: &[u8]) -> Option<u8> {
     number(word, u64::from(u8::MAX)).map(|value| value as u8)
 }
 

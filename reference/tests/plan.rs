@@ -251,12 +251,13 @@ fn questions_of_the_table_openings_and_closings_need_one() {
     let path = Folder::new("no_table");
     let file = path.file("form");
     let lines = format!(
-        "write\nwrite @{file}\nload\nlink 1 0 0\nlink 9 9 9\ncircuits\nopen 1 1 2 0 0\nclose 1\n"
+        "write\nwrite @{file}\nload\nlink 1 0 0\nlink 9 9 9\ncircuits\nfrom 1\nfrom 0\n\
+        open 1 1 2 0 0\nclose 1\n"
     );
-    assert_eq!(answer(lines.as_bytes()), "line refused\n".repeat(8));
+    assert_eq!(answer(lines.as_bytes()), "line refused\n".repeat(10));
     assert!(!path.path.join("form").exists());
     let script = format!("read -\nring 2 1 1\n{lines}");
-    let output = format!("read refused 30\nring refused 1\n{}", "line refused\n".repeat(8));
+    let output = format!("read refused 30\nring refused 1\n{}", "line refused\n".repeat(10));
     assert_eq!(answer(script.as_bytes()), output);
 }
 
@@ -264,7 +265,6 @@ fn questions_of_the_table_openings_and_closings_need_one() {
 fn lines_of_other_releases_and_the_picture_are_refused() {
     let lines = [
         "show",
-        "from 1",
         "ends 1 1 2",
         "ports 1 1 1 1 1",
         "drain",

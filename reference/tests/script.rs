@@ -65,7 +65,7 @@ fn lines_end_at_lf() {
 
 #[test]
 fn lines_that_are_no_request() {
-    let lines: [&[u8]; 29] = [
+    let lines: [&[u8]; 30] = [
         b"\n",
         b" \n",
         b"ring\n",
@@ -95,6 +95,7 @@ fn lines_that_are_no_request() {
         b"frequency 500 -3 0\n",
         b"wavelength 500 -3 1929500\n",
         b"tidy\n",
+        b"from 1\n",
     ];
     lines.into_iter().for_each(is_refused_line);
 }

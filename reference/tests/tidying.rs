@@ -238,7 +238,7 @@ static MANY_TABLES: LazyLock<Vec<Table>> = LazyLock::new(many_tables);
 fn many_tables() -> Vec<Table> {
     let mut many = Vec::new();
     for kind in [Kind::Small, Kind::Mixed, Kind::Large] {
-        many.extend(plan_tables(kind, 21, 12_000, 5));
+        many.extend(plan_tables(kind, 21, 18_000, 5));
     }
     let mut random = Random::new(22);
     for nodes in NODES_LEAST..=NODES_MOST {

@@ -4,34 +4,14 @@ mod common;
 
 use std::process::Output;
 
-use common::{circuit, coverage_of, read_line, ring, run_on_form, standing};
+use common::{answer, answer_on, circuit, coverage_of, read_line, ring, run_on_form, standing};
 use ring::circuit::Circuit;
 use ring::coverage::{Event, TidyingEvent, TIDYING_EVENTS};
 use ring::form;
 use ring::generator;
 use ring::place::Direction::{Clockwise, Counterclockwise};
-use ring::plan::{run, Planner};
 use ring::table::Table;
 use TidyingEvent::*;
-
-/// The answers of a planner that relies on its table and one that checks it.
-fn answer(lines: &[&str]) -> String {
-    let script = lines.join("\n");
-    let outputs = [Planner::new(), Planner::checking_rules()].map(|mut planner| {
-        let mut output = Vec::new();
-        run(&mut planner, &mut script.as_bytes(), &mut output).unwrap();
-        String::from_utf8(output).unwrap()
-    });
-    assert_eq!(outputs[0], outputs[1]);
-    outputs[0].clone()
-}
-
-/// The answers to lines after the table was read.
-fn answer_on(table: &Table, lines: &[&str]) -> String {
-    let output = answer(&[&[&read_line(table)[..]], lines].concat());
-    let (_, rest) = output.split_once('\n').unwrap();
-    rest.to_string()
-}
 
 /// 1→3 and 3→4 stand counterclockwise, and fit clockwise.
 fn untidy_table() -> Table {

@@ -3,19 +3,19 @@
 use Prim.Native.Nat.{ℕ, _+_, _≤_}
 use mathlib.Core.List.{List}
 use lib.ListN.{length}
-use Rattle.desk.specs.Desk.{KeepsRules}
-use Rattle.desk.specs.declared.Desk.{Desk}
+use Rattle.desk.specs.Desk.{Keeps}
+use Rattle.desk.specs.declared.DeskState.{DeskState}
 use Rattle.desk.specs.declared.Ran.{Ran}
 use Rattle.buffer.specs.Appended.{Extends}
 use Rattle.answer_room.specs.Room.{lineRoom}
 
--- what running a line asks for
-pub record CanAnswer (d : Desk) (l : List ℕ) (at : ℕ) : Type 0 where
-  pub rules : KeepsRules d
+-- what running a line asks for: keys and rests that hold the desk's table, and room for the answer
+pub record CanAnswer (s : DeskState) (keys rests l : List ℕ) (at : ℕ) : Type 0 where
+  pub keeps : Keeps s keys rests
   pub room : at + lineRoom ≤ length l
 
--- a line was run: the table meets the ring rules again, and the lent bytes have the answer and are else the same
-pub record LineAnswered (l : List ℕ) (at : ℕ) (l′ : List ℕ) (r : Ran) : Type 0 where
-  pub rules : KeepsRules (r .desk)
+-- a line was run: the keys and the rests hold the desk's table again, and the lent bytes have the answer and are else the same
+pub record LineAnswered (l : List ℕ) (at : ℕ) (keys rests l′ : List ℕ) (r : Ran) : Type 0 where
+  pub keeps : Keeps (r .desk) keys rests
   pub some : Extends l at l′ (r .next)
   pub short : r .next ≤ at + lineRoom

@@ -25,6 +25,9 @@ use Rattle.ring.specs.Opening.{openOf, lentAfter}
 use Rattle.ring.specs.Closing.{closeOf}
 use Rattle.ring.specs.Tidying.{tidyOf, tidyLentAfter}
 use Rattle.ring.specs.Answer.{openingAnswer, tidyingAnswer}
+use Rattle.roster.specs.declared.Roster.{Roster}
+use Rattle.roster.specs.Roster.{builtOf, tableBuilt}
+use Rattle.roster_calls.specs.Calls.{openRoster, openRosterLent, closeRoster, tidyRoster, tidyRosterLent}
 use Rattle.form.specs.Form.{formOf}
 use Rattle.form.specs.Reading.{readOf}
 use Rattle.load.specs.Load.{linkLoad}
@@ -59,6 +62,14 @@ pub data Question : Type 0 where
   reporting : RingTable → ℕ → Question
   -- from a link to the next clockwise, in a direction
   stepping : RingTable → Direction → ℕ → Question
+  -- the roster built from a table
+  arranging : RingTable → Question
+  -- the table built from a roster
+  unarranging : Roster → Question
+  -- a circuit opened on a roster, three blank records lent; one closed by its number; a roster tidied, 128 lent
+  openingOn : Roster → Circuit → Question
+  closingOn : Roster → ℕ → Question
+  tidyingOn : Roster → Question
 
 -- what it expects
 pub data Answer : Type 0 where
@@ -78,6 +89,8 @@ pub data Answer : Type 0 where
   reported : Reply → List ℕ → Answer
   -- the next link; the load, what it grows and falls by at the node between, and the load there
   stepped : ℕ → ℕ → ℕ → ℕ → ℕ → Answer
+  -- the number and values of a building or of a call on a roster, with the lent list, if there is one, and the roster after it
+  arrangedAs : Reply → List Move → Roster → Answer
 
 -- the table after a making, a closing or a reading
 abbrev pub done : RingTable → Answer
@@ -144,6 +157,12 @@ answerTo (reporting t n) = reported (verdictAnswer (reportOf t n)) (bufferAfter 
 answerTo (stepping t d l) =
     let m = next (t .nodes) l in
     stepped m (linkLoad (t .nodes) (t .channels) d l) (grows (t .channels) d m) (falls (t .channels) d m) (linkLoad (t .nodes) (t .channels) d m)
+answerTo (arranging t) = arrangedAs (verdictAnswer (builtOf t .verdict)) [] (builtOf t .roster)
+answerTo (unarranging r) = replied (verdictAnswer (tableBuilt r .verdict)) [] (tableBuilt r .table)
+answerTo (openingOn r c) = arrangedAs (openingAnswer (openRoster r c blanks .answer)) (openRosterLent r c blanks) (openRoster r c blanks .roster)
+answerTo (closingOn r n) = arrangedAs (verdictAnswer (closeRoster r n .verdict)) [] (closeRoster r n .roster)
+answerTo (tidyingOn r) =
+    let lent = replicate 128 blank in arrangedAs (tidyingAnswer (tidyRoster r lent .answer)) (tidyRosterLent r lent) (tidyRoster r lent .roster)
 answerTo (saving t) = saved (length (formOf t)) (getD (formOf t) (mapStart t) 0)
 
 -- a case holds when that is what it expects

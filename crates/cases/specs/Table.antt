@@ -14,8 +14,10 @@ use Rattle.moves.specs.Lent.{blanks}
 use Rattle.refusals.specs.Answer.{refusal}
 use Rattle.ring.specs.declared.RingTable.{RingTable}
 use Rattle.ring.specs.Table.{blankTable}
+use Rattle.roster.specs.declared.Roster.{Roster}
+use Rattle.roster.specs.Roster.{blankRoster}
 use Rattle.form.specs.Form.{formOf}
-use Rattle.cases.specs.Case.{pair, pairBeforeE1, ports, making, opening, closing, tidying, saving, reading, tuning, tracing, reporting, stepping, Question, shares, notAdjacent, dimensions, saved, told, reported, stepped, done, refused, opened, notOpened, tidied, notTidied, Answer, Case, _gives_}
+use Rattle.cases.specs.Case.{pair, pairBeforeE1, ports, making, opening, closing, tidying, saving, reading, tuning, tracing, reporting, stepping, arranging, unarranging, openingOn, closingOn, tidyingOn, Question, shares, notAdjacent, dimensions, saved, told, reported, stepped, arrangedAs, done, refused, opened, notOpened, tidied, notTidied, Answer, Case, _gives_}
 
 -- a circuit without a remark and without an account: number, source, destination
 abbrev circuit : ℕ → ℕ → ℕ → Circuit
@@ -340,6 +342,91 @@ shorterWays =
     (ring 6 (replicate 6 1) (shared (circuit 61 1 2) (circuit 64 2 1) ∷ shared (circuit 62 3 6) (circuit 63 5 3) ∷ alone (circuit 66 6 4) ∷ alone (circuit 65 4 5) ∷ []))
     ∷ []
 
+-- 02, E7: a roster of a ring of N nodes with the port counts ks, which counts n entries, the first with these keys and rests, and 0 in the others
+abbrev rosterWith : ℕ → List ℕ → ℕ → List ℕ → List ℕ → Roster
+rosterWith N ks n keys rests = record {
+  keys = keys ++ replicate (192 - length keys) 0;
+  rests = rests ++ replicate (192 - length rests) 0;
+  heading = record { nodes = N; ports = ks ++ replicate (64 - length ks) 0; count = n };
+}
+
+-- a key, of a source and a number; and the rest of a circuit without a remark and without an account, of a destination and a place
+abbrev key : ℕ → ℕ → ℕ
+key s n = s * 4294967296 + n
+
+abbrev rest : ℕ → ℕ → ℕ
+rest d p = d * 256 + p
+
+-- a ring of three nodes with 2, 3 and 3 ports, whose node 2 sends three circuits, placed out of order
+abbrev three : List Slot → RingTable
+three u = ring 3 (2 ∷ 3 ∷ 3 ∷ []) u
+
+abbrev spread : RingTable
+spread = three (shared (circuit 7 2 3) (circuit 9 3 1) ∷ unlit ∷ alone (circuit 5 2 3) ∷ alone (circuit 8 2 1) ∷ alone (circuit 6 1 2) ∷ [])
+
+-- its roster
+abbrev rows : Roster
+rows = rosterWith 3 (2 ∷ 3 ∷ 3 ∷ []) 5 (key 1 6 ∷ key 2 5 ∷ key 2 7 ∷ key 2 8 ∷ key 3 9 ∷ []) (rest 2 4 ∷ rest 3 2 ∷ rest 3 0 ∷ rest 1 3 ∷ rest 1 0 ∷ [])
+
+-- rosters that no table gives, of the same ring
+abbrev otherRoster : ℕ → List ℕ → List ℕ → Roster
+otherRoster n keys rests = rosterWith 3 (2 ∷ 3 ∷ 3 ∷ []) n keys rests
+
+-- one with a row by descending number
+abbrev backwards : Roster
+backwards = otherRoster 2 (key 2 7 ∷ key 2 5 ∷ []) (rest 3 0 ∷ rest 3 2 ∷ [])
+
+abbrev rosters : List Case
+rosters =
+    -- by source node, within it by rising number, each with its place; and back
+    arranging spread gives arrangedAs (record { number = 0; values = [] }) [] rows
+    ∷ unarranging rows gives done spread
+    ∷ arranging made gives arrangedAs (record { number = 0; values = [] }) [] (rosterWith 5 (replicate 5 1) 0 [] [])
+    -- remark and account come through
+    ∷ arranging (ring3 (alone (record { number = 3; source = 1; destination = 2; remark = 258; account = 16909060 }) ∷ []))
+    gives arrangedAs (record { number = 0; values = [] }) [] (rosterWith 3 (replicate 3 1) 1 (key 1 3 ∷ []) ((16909060 * 4294967296 + 258 * 65536 + rest 2 0) ∷ []))
+    -- a table that breaks a rule: node 1 sends two circuits with one port
+    ∷ arranging (ring3 (alone (circuit 1 1 2) ∷ alone (circuit 2 1 2) ∷ [])) gives arrangedAs (refusal 22) [] blankRoster
+    ∷ arranging blankTable gives arrangedAs (refusal 22) [] blankRoster
+    -- a row by descending number
+    ∷ unarranging backwards gives refused 22 blankTable
+    -- a row before that of a lower node
+    ∷ unarranging (otherRoster 2 (key 3 5 ∷ key 2 7 ∷ []) (rest 1 0 ∷ rest 3 2 ∷ [])) gives refused 22 blankTable
+    -- a source that no byte holds
+    ∷ unarranging (otherRoster 1 (key 258 5 ∷ []) (rest 3 0 ∷ [])) gives refused 22 blankTable
+    -- a number twice, in one row and in two
+    ∷ unarranging (otherRoster 2 (key 2 5 ∷ key 2 5 ∷ []) (rest 3 0 ∷ rest 3 2 ∷ [])) gives refused 22 blankTable
+    ∷ unarranging (otherRoster 2 (key 1 5 ∷ key 2 5 ∷ []) (rest 3 0 ∷ rest 3 2 ∷ [])) gives refused 22 blankTable
+    -- a place of 128
+    ∷ unarranging (otherRoster 1 (key 2 5 ∷ []) (rest 3 128 ∷ [])) gives refused 22 blankTable
+    -- something left over behind the last entry: a key, a rest
+    ∷ unarranging (otherRoster 1 (key 2 5 ∷ key 2 7 ∷ []) (rest 3 0 ∷ [])) gives refused 22 blankTable
+    ∷ unarranging (otherRoster 1 (key 2 5 ∷ []) (rest 3 0 ∷ rest 3 2 ∷ [])) gives refused 22 blankTable
+    -- more entries than there is room for
+    ∷ unarranging (otherRoster 193 [] []) gives refused 22 blankTable
+    -- three circuits at one place, and two that cannot share there
+    ∷ unarranging (otherRoster 3 (key 1 5 ∷ key 2 6 ∷ key 3 7 ∷ []) (rest 2 0 ∷ rest 3 0 ∷ rest 1 0 ∷ [])) gives refused 22 blankTable
+    ∷ unarranging (otherRoster 2 (key 1 5 ∷ key 1 6 ∷ []) (rest 2 0 ∷ rest 3 0 ∷ [])) gives refused 22 blankTable
+    -- the blank one
+    ∷ unarranging blankRoster gives refused 22 blankTable
+    -- calls on such a roster hand it back as it came, and leave the lent list
+    ∷ openingOn backwards (circuit 9 3 1) gives arrangedAs (refusal 22) blanks backwards
+    ∷ closingOn backwards 7 gives arrangedAs (refusal 22) [] backwards
+    ∷ tidyingOn backwards gives arrangedAs (refusal 22) (replicate 128 blank) backwards
+    -- and on one that stands: 4 from 3 to 2 joins 5 at place 2 and comes before 9 in its row; 13 and 15; 6 joins 5 where that stands
+    ∷ openingOn rows (circuit 4 3 2)
+    gives arrangedAs (record { number = 0; values = 2 ∷ 0 ∷ 0 ∷ [] }) blanks
+    (otherRoster 6 (key 1 6 ∷ key 2 5 ∷ key 2 7 ∷ key 2 8 ∷ key 3 4 ∷ key 3 9 ∷ []) (rest 2 4 ∷ rest 3 2 ∷ rest 3 0 ∷ rest 1 3 ∷ rest 2 2 ∷ rest 1 0 ∷ []))
+    ∷ openingOn rows (circuit 4 2 1) gives arrangedAs (refusal 13) blanks rows
+    ∷ closingOn rows 4 gives arrangedAs (refusal 15) [] rows
+    ∷ closingOn rows 7
+    gives arrangedAs (record { number = 0; values = [] }) []
+    (otherRoster 4 (key 1 6 ∷ key 2 5 ∷ key 2 8 ∷ key 3 9 ∷ []) (rest 2 4 ∷ rest 3 2 ∷ rest 1 3 ∷ rest 1 0 ∷ []))
+    ∷ tidyingOn rows
+    gives arrangedAs (record { number = 0; values = 1 ∷ 1 ∷ [] }) (move 6 4 2 ∷ replicate 127 blank)
+    (otherRoster 5 (key 1 6 ∷ key 2 5 ∷ key 2 7 ∷ key 2 8 ∷ key 3 9 ∷ []) (rest 2 2 ∷ rest 3 2 ∷ rest 3 0 ∷ rest 1 3 ∷ rest 1 0 ∷ []))
+    ∷ []
+
 -- eight nodes with a port each: six places
 abbrev waiting : List Slot → RingTable
 waiting u = ring 8 (replicate 8 1) u
@@ -467,4 +554,4 @@ cases =
     -- bit 2 or bit 4 without bit 1, and bits 5 to 7, with every field after them and with none
     ∷ map (λ m. (m ∷ n1 ++ r1 ++ a1 ++ n2 ++ r2 ++ a2) refusedBy 31) badMaps
     ++ map (λ m. (m ∷ []) refusedBy 31) badMaps
-    ++ frequencies ++ loads ++ tidyings ++ shorterWays
+    ++ frequencies ++ loads ++ tidyings ++ shorterWays ++ rosters

@@ -18,8 +18,8 @@ use Rattle.text.specs.Number.{number}
 use Rattle.text.specs.Signed.{signed}
 use Rattle.words.specs.Split.{words, sameText}
 use Rattle.commands.specs.declared.Command.{Command}
-use Rattle.commands.specs.declared.Command.the-variants.{Read, ReadFile, Write, WriteFile, Load, Link, Circuits, Show, Frequency, Wavelength, Tidy, Desk}
-use Rattle.commands.specs.Command.{longestCommand, lastAt, byFirst, readCommand, writeCommand, given, field, givenSigned, signedField, atEnd, linkCommand, gridCommand, commandWords, commandOf}
+use Rattle.commands.specs.declared.Command.the-variants.{Read, ReadFile, Write, WriteFile, Load, Link, Circuits, Show, Frequency, Wavelength, Tidy, From, Desk}
+use Rattle.commands.specs.Command.{longestCommand, lastAt, byFirst, readCommand, writeCommand, given, field, givenSigned, signedField, atEnd, linkCommand, gridCommand, fromCommand, commandWords, commandOf}
 use Rattle.commands.proofs.Last.{last-within}
 
 -- where it begins is at most n
@@ -35,6 +35,7 @@ Begins n Show = Unit {0}
 Begins n (Frequency spacing start wavelength) = Unit {0}
 Begins n (Wavelength spacing start frequency) = Unit {0}
 Begins n Tidy = Unit {0}
+Begins n (From node) = Unit {0}
 Begins n Desk = Unit {0}
 
 -- each part of the definition keeps that
@@ -95,6 +96,10 @@ module _ (l : List ℕ) where
   begins-grid asked h ws =
       begins-field (length l) 32 ws _ (λ a us. begins-signed (length l) us _ (λ b vs. begins-field (length l) 32 vs _ (λ c rs. begins-end (length l) rs _ (h _ _ _))))
 
+  begins-from : (ws : List (List ℕ)) → Begins (length l) (fromCommand ws)
+  unfolding fromCommand
+  begins-from ws = begins-field (length l) 8 ws _ (λ a us. begins-end (length l) us _ tt)
+
   begins-words : (ws : List (List ℕ)) → Begins (length l) (commandWords l ws)
   unfolding commandWords
   begins-words [] = tt
@@ -106,8 +111,9 @@ module _ (l : List ℕ) where
       (begins-pick (length l) (sameText w (bytes "circuits")) _ _ (begins-end (length l) ws _ tt)
       (begins-pick (length l) (sameText w (bytes "show")) _ _ (begins-end (length l) ws _ tt)
       (begins-pick (length l) (sameText w (bytes "tidy")) _ _ (begins-end (length l) ws _ tt)
+      (begins-pick (length l) (sameText w (bytes "from")) _ _ (begins-from ws)
       (begins-pick (length l) (sameText w (bytes "frequency")) _ _ (begins-grid Frequency (λ s z k. tt) ws)
-      (begins-pick (length l) (sameText w (bytes "wavelength")) _ _ (begins-grid Wavelength (λ s z k. tt) ws) tt))))))))
+      (begins-pick (length l) (sameText w (bytes "wavelength")) _ _ (begins-grid Wavelength (λ s z k. tt) ws) tt)))))))))
 
   begins : Begins (length l) (commandOf l)
   unfolding commandOf

@@ -12,7 +12,7 @@ use Rattle.words.specs.Split.{otherWords, wordLength, sameText}
 use Rattle.words.proofs.Split.{end-within, words-first}
 use Rattle.commands.specs.declared.Command.{Command}
 use Rattle.commands.specs.declared.Command.the-variants.{Load, Circuits, Show, Frequency, Wavelength, Tidy, Desk}
-use Rattle.commands.specs.Command.{longestCommand, readCommand, writeCommand, atEnd, linkCommand, gridCommand, gridWords, changeWords, commandWords, commandOf}
+use Rattle.commands.specs.Command.{longestCommand, readCommand, writeCommand, atEnd, linkCommand, gridCommand, gridWords, fromCommand, lookupWords, changeWords, commandWords, commandOf}
 
 -- a line that is too long is left to the desk, which refuses it
 pub line-long : (l : List ℕ) → longestCommand < length l → Desk ≡ commandOf l
@@ -71,10 +71,20 @@ module _ (w : List ℕ) (ws : List (List ℕ)) (a : Bool) (is-a : a ≡ sameText
   pub change-tidy : (x : Command) → a ≡ true → x ≡ atEnd ws Tidy → x ≡ changeWords w ws
   change-tidy x t k = k ∙ sym (rw (← is-a, t))
 
-  pub change-other : (x : Command) → a ≡ false → x ≡ gridWords w ws → x ≡ changeWords w ws
+  pub change-other : (x : Command) → a ≡ false → x ≡ lookupWords w ws → x ≡ changeWords w ws
   change-other x t k = k ∙ sym (rw (← is-a, t))
 
 pub ruleset change = (change-tidy, change-other)
+
+-- a line that looks a node up, or another
+module _ (w : List ℕ) (ws : List (List ℕ)) (a : Bool) (is-a : a ≡ sameText w (bytes "from")) where
+  pub lookup-from : (x : Command) → a ≡ true → x ≡ fromCommand ws → x ≡ lookupWords w ws
+  lookup-from x t k = k ∙ sym (rw (← is-a, t))
+
+  pub lookup-other : (x : Command) → a ≡ false → x ≡ gridWords w ws → x ≡ lookupWords w ws
+  lookup-other x t k = k ∙ sym (rw (← is-a, t))
+
+pub ruleset lookup = (lookup-from, lookup-other)
 
 -- a line on the frequency grid
 module _ (w : List ℕ) (ws : List (List ℕ)) (a : Bool) (is-a : a ≡ sameText w (bytes "frequency")) where

@@ -16,7 +16,7 @@ use Rattle.text.specs.Number.{number}
 use Rattle.text.specs.Signed.{signed}
 use Rattle.words.specs.Split.{words, sameText}
 use Rattle.commands.specs.declared.Command.{Command}
-use Rattle.commands.specs.declared.Command.the-variants.{Read, ReadFile, Write, WriteFile, Load, Link, Circuits, Show, Frequency, Wavelength, Tidy, Desk}
+use Rattle.commands.specs.declared.Command.the-variants.{Read, ReadFile, Write, WriteFile, Load, Link, Circuits, Show, Frequency, Wavelength, Tidy, From, Desk}
 
 -- of a form at most 4,096 bytes are read, from the digits of a word or from a file
 abbrev pub mostRead : ℕ
@@ -100,9 +100,17 @@ abbrev pub wayAsked : Bool → ℕ → ℤ → ℕ → Command
 wayAsked true = Wavelength
 wayAsked false = Frequency
 
--- `tidy` (02, E5), or a line on the frequency grid, by its first word
+-- `from NODE` (02, E7): "NODE has 8 bits"
+unfoldable pub fromCommand : List (List ℕ) → Command
+fromCommand ws = field 8 ws (λ node ws. atEnd ws (From node))
+
+-- `from`, or a line on the frequency grid, by its first word
+abbrev pub lookupWords : List ℕ → List (List ℕ) → Command
+lookupWords w ws = pick (sameText w (bytes "from")) (fromCommand ws) (gridWords w ws)
+
+-- `tidy` (02, E5), or a line that changes nothing, by its first word
 abbrev pub changeWords : List ℕ → List (List ℕ) → Command
-changeWords w ws = pick (sameText w (bytes "tidy")) (atEnd ws Tidy) (gridWords w ws)
+changeWords w ws = pick (sameText w (bytes "tidy")) (atEnd ws Tidy) (lookupWords w ws)
 
 -- a line by its words: the first says which it is
 unfoldable pub commandWords : List ℕ → List (List ℕ) → Command

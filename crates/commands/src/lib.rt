@@ -4,8 +4,9 @@ ghost use mathlib.Core.Path.{_≡_};
 ghost use Prim.Native.Nat.{_≤_};
 ghost use lib.ListN.{length, drop};
 ghost use Rattle.words.specs.Split.{otherWords};
-ghost use Rattle.commands.specs.Command.{lastAt, byFirst, readCommand, writeCommand, atEnd, linkCommand, gridCommand, gridWords, wayAsked, changeWords, commandOf};
+ghost use Rattle.commands.specs.Command.{lastAt, byFirst, readCommand, writeCommand, atEnd, linkCommand, gridCommand, gridWords, wayAsked, fromCommand, lookupWords, changeWords, commandOf};
 use words::Field;
+use words::MOST_U8;
 use words::MOST_U32;
 use words::SignedField;
 
@@ -40,6 +41,9 @@ pub enum Command {
         frequency: u32,
     },
     Tidy,
+    From {
+        node: u8,
+    },
     Desk,
 }
 
@@ -183,14 +187,34 @@ fn parse_grid_line(first: &[u8], line: &[u8], end: usize) -> Command
     Command::Desk
 }
 
-// `tidy`, or a line on the frequency grid, by its first word, which ends at the position.
+// `from NODE`, after its first word.
+fn parse_from(line: &[u8], at: usize) -> Command
+    ensures { λ r. ⌜ r ≡ fromCommand (otherWords (drop at (now (line .entry)))) ⌝ }
+{
+    let Field::Read(node, end) = words::read_field(line, at, MOST_U8) else {
+        return Command::Desk;
+    };
+    at_end(line, end, Command::From { node: node as u8 })
+}
+
+// `from`, or a line on the frequency grid, by its first word, which ends at the position.
+fn parse_lookup_line(first: &[u8], line: &[u8], end: usize) -> Command
+    ensures { λ r. ⌜ r ≡ lookupWords (now (first .entry)) (otherWords (drop end (now (line .entry)))) ⌝ }
+{
+    if words::same_text(first, b"from") {
+        return parse_from(line, end);
+    }
+    parse_grid_line(first, line, end)
+}
+
+// `tidy`, or a line that changes nothing, by its first word, which ends at the position.
 fn parse_change_line(first: &[u8], line: &[u8], end: usize) -> Command
     ensures { λ r. ⌜ r ≡ changeWords (now (first .entry)) (otherWords (drop end (now (line .entry)))) ⌝ }
 {
     if words::same_text(first, b"tidy") {
         return at_end(line, end, Command::Tidy);
     }
-    parse_grid_line(first, line, end)
+    parse_lookup_line(first, line, end)
 }
 
 // What a line asks for, without its line end.

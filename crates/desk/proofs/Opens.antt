@@ -17,7 +17,7 @@ use Rattle.ring.specs.declared.Opening.{Opening}
 use Rattle.ring.specs.declared.Opening.the-variants.{Taken as taken, Refused as notOpened}
 use Rattle.ring.proofs.Demand.{demand3, answered}
 use Rattle.print.specs.Answers.{refusedLine, openLine}
-use Rattle.desk.specs.Desk.{Desk, runOpen, CanRun}
+use Rattle.desk.specs.Desk.{Desk, DeskState, deskOf, runOpen, CanRun}
 use Rattle.desk.specs.Demand3.{Refuses, Serves, Opens}
 
 -- an opening that answers by a refusal prints its number
@@ -58,9 +58,12 @@ module _ (d : Desk) (c : Circuit) (ready : d .ready ≡ true) (rules : meetsRule
       record { desk = rw (ready, q .table); text = rw (ready, q .none, append-nil) (refusal-line (c .number) _ (decision .opened .answer) (q .answer)) }
 
 -- each line that asks for an opening
-pub opens : (d : Desk) (line l : List ℕ) (at : ℕ) → CanRun d l at → Opens d line
-opens d line l at s =
+pub opens : (d : DeskState) (keys rests line l : List ℕ) (at : ℕ) → CanRun d keys rests l at → Opens (deskOf d keys rests) line
+opens d keys rests line l at s =
     record {
-      serves = λ c e ready g. rw e (serves d c ready (s .rules ready) g);
-      refuses = λ c e ready g. rw e (refuses d c ready (s .rules ready) g);
+      serves = λ c e ready g. rw e (serves (deskOf d keys rests) c ready (meets ready) g);
+      refuses = λ c e ready g. rw e (refuses (deskOf d keys rests) c ready (meets ready) g);
     }
+  where
+    meets : d .ready ≡ true → meetsRules (deskOf d keys rests .table) ≡ true
+    meets h = rw h (s .keeps .held h .holds .rules)

@@ -1,10 +1,12 @@
 -- A line, run: from what the calls ensured to the definitions. Assumes nothing.
-use mathlib.Core.Path.{_≡_, refl, sym}
+use mathlib.Core.Path.{_≡_, refl, sym, _∙_}
 use mathlib.Core.Bool.{true, false}
 use mathlib.Core.List.{List, _++_}
-use Prim.Native.Nat.{ℕ}
+use Prim.Native.Nat.{ℕ, _+_, _≤_}
 use native.Mathlib.Omega.{arith}
+use lib.ListN.{length}
 use Rattle.basis.proofs.Branch.{pick-false}
+use Rattle.limits.specs.Limits.{mostCircuits}
 use Rattle.lightpath.specs.declared.Circuit.{Circuit}
 use Rattle.moves.specs.Records.{listed}
 use Rattle.ports.specs.Ports.{wavelengths}
@@ -14,18 +16,22 @@ use Rattle.ring.specs.Table.{meetsRules}
 use Rattle.ring.specs.Making.{makeOf}
 use Rattle.ring.specs.Opening.{decideOf}
 use Rattle.ring.specs.Closing.{closeOf}
-use Rattle.ring.specs.declared.Decision.{Decision}
+use Rattle.ring.specs.declared.RingTable.{RingTable}
 use Rattle.ring.specs.declared.Answered.{Answered}
 use Rattle.ring.proofs.Making.{make-rules}
-use Rattle.ring.proofs.Deciding.{open-rules}
-use Rattle.ring.proofs.Closing.{close-rules}
+use Rattle.roster.specs.declared.Heading.{Heading}
+use Rattle.roster.specs.Held.{tableIn, HoldsTable}
+use Rattle.roster.proofs.Holding.{held-table, held-again, held-long}
+use Rattle.roster_open.specs.InPlace.{OpensIn, ClosesIn}
+use Rattle.roster_open.specs.declared.OpenedIn.{OpenedIn}
+use Rattle.roster_open.specs.declared.ClosedIn.{ClosedIn}
 use Rattle.requests.specs.declared.Request.{Request}
 use Rattle.requests.specs.declared.Line.{Line}
 use Rattle.requests.specs.Line.{parseLine}
 use Rattle.buffer.specs.Put.{Printed}
 use Rattle.buffer.proofs.Put.{wider}
-use Rattle.print.specs.Answers.{ringLine, closeLine, openLine, moveLines, closeRoom, ringRoom, openingRoom}
-use Rattle.desk.specs.Desk.{Desk, Ran, deskWith, refuse, runRing, runOpen, runClose, run, runLine, CanRun, HasRun}
+use Rattle.print.specs.Answers.{lineRefused, ringLine, closeLine, openLine, moveLines, closeRoom, ringRoom, openingRoom}
+use Rattle.desk.specs.Desk.{Desk, DeskState, Ran, deskWith, deskOf, Keeps, answerRoom, refuse, runRing, runOpen, runClose, run, runLine, CanRun, HasRun}
 
 -- before the first accepted ring an opening and a closing are refused lines
 unready-open : (d : Desk) (c : Circuit) → d .ready ≡ false → runOpen d c ≡ refuse d
@@ -36,42 +42,91 @@ unready-close : (d : Desk) (n : ℕ) → d .ready ≡ false → runClose d n ≡
 unfolding runClose
 unready-close d n h = sym (pick-false (d .ready) _ _ _ h refl)
 
-module _ (d : Desk) (l : List ℕ) (at : ℕ) (s : CanRun d l at) where
-  -- the table of an accepted ring meets the ring rules
-  pub table-rules : d .ready ≡ true → meetsRules (d .table) ≡ true
-  table-rules h = s .rules h
+-- a table that lists hold is kept
+pub keeps-held : (t : RingTable) (h : Heading) (keys rests : List ℕ) → HoldsTable t h keys rests → Keeps (record { heading = h; ready = true }) keys rests
+keeps-held t h keys rests H = record { held = λ e. held-again t h keys rests H; blank = λ e. let z : _≡_ {A = ℕ} 0 1 = cc in absurd (omega arith); longKeys = held-long t h keys rests H .0; longRests = held-long t h keys rests H .1 }
 
-  module _ (l′ : List ℕ) where
-    pub refused-open : (c : Circuit) (r : Ran) → d .ready ≡ false → HasRun (refuse d) l at l′ r → HasRun (runOpen d c) l at l′ r
-    refused-open c r h q = rw (unready-open d c h) q
+-- and is the desk's
+desk-held : (t : RingTable) (h : Heading) (keys rests : List ℕ) → HoldsTable t h keys rests → deskOf (record { heading = h; ready = true }) keys rests ≡ deskWith t
+desk-held t h keys rests H = let e = held-table t h keys rests H in λ i. record { ready = true; table = e i }
 
-    pub refused-close : (n : ℕ) (r : Ran) → d .ready ≡ false → HasRun (refuse d) l at l′ r → HasRun (runClose d n) l at l′ r
-    refused-close n r h q = rw (unready-close d n h) q
+module _ (d : DeskState) (keys rests l : List ℕ) (at : ℕ) (s : CanRun d keys rests l at) where
+  pub run-room : at + answerRoom ≤ length l
+  run-room = s .room
 
-    module _ (e : ℕ) where
-      pub opened : (c : Circuit) (a : Decision) → d .ready ≡ true → a ≡ decideOf (d .table) c 3
-          → Printed openingRoom l at (openLine (c .number) (a .opened .answer) ++ moveLines (listed (a .moves))) l′ e
-          → HasRun (runOpen d c) l at l′ (record { desk = deskWith (a .opened .table); next = e })
-      unfolding runOpen
-      opened c a h k p = record { desk = rw (h, k); text = rw (h, ← k) p; rules = λ t. rw k (open-rules (d .table) c 3 (s .rules h)) }
+  -- the table of an accepted ring is held
+  pub run-held : d .ready ≡ true → HoldsTable (tableIn (d .heading) keys rests) (d .heading) keys rests
+  run-held h = s .keeps .held h
 
-      pub closed : (n : ℕ) (a : Answered) → d .ready ≡ true → a ≡ closeOf (d .table) n → Printed closeRoom l at (closeLine n (a .verdict)) l′ e
-          → HasRun (runClose d n) l at l′ (record { desk = deskWith (a .table); next = e })
-      unfolding runClose
-      closed n a h k p = record { desk = rw (h, k); text = rw (h, ← k) (wider (omega arith) p); rules = λ t. rw k (close-rules (d .table) n (s .rules h)) }
+  pub run-keys : length keys ≡ mostCircuits
+  run-keys = s .keeps .longKeys
 
-      module _ (n w : ℕ) (ks : List ℕ) (a : Answered) (k : a ≡ makeOf n ks) (i : w ≡ wavelengths (a .table .ports)) (p : Printed ringRoom l at (ringLine n w (a .verdict)) l′ e) where
-        pub ringed : a .verdict ≡ granted → HasRun (runRing d n ks) l at l′ (record { desk = deskWith (a .table); next = e })
-        unfolding runRing
-        ringed h = record { desk = rw (← k, h); text = rw (← k, ← i) (wider (omega arith) p); rules = λ t. rw k (make-rules n ks (rw k at h)) }
+  pub run-rests : length rests ≡ mostCircuits
+  run-rests = s .keeps .longRests
 
-        pub not-ringed : (r : Refusal) → a .verdict ≡ refused r → HasRun (runRing d n ks) l at l′ (record { desk = d; next = e })
-        unfolding runRing
-        not-ringed r h = record { desk = rw (← k, h); text = rw (← k, ← i) (wider (omega arith) p); rules = s .rules }
+  -- and is the desk's
+  ready-table : d .ready ≡ true → deskOf d keys rests .table ≡ tableIn (d .heading) keys rests
+  ready-table h = rw h
 
-pub ruleset running = (table-rules, refused-open, refused-close, opened, closed, ringed, not-ringed)
+  module _ (l′ : List ℕ) (r : Ran) (q : (r .desk ≡ d) × Printed answerRoom l at lineRefused l′ (r .next)) where
+    pub refused-line : HasRun (refuse (deskOf d keys rests)) l at keys rests l′ r
+    refused-line = record { desk = rw (q .0); text = q .1; keeps = rw (q .0) (s .keeps) }
+
+    pub refused-open : (c : Circuit) → d .ready ≡ false → HasRun (runOpen (deskOf d keys rests) c) l at keys rests l′ r
+    refused-open c h = rw (unready-open (deskOf d keys rests) c h) refused-line
+
+    pub refused-close : (n : ℕ) → d .ready ≡ false → HasRun (runClose (deskOf d keys rests) n) l at keys rests l′ r
+    refused-close n h = rw (unready-close (deskOf d keys rests) n h) refused-line
+
+  module _ (keys′ rests′ l′ : List ℕ) (e : ℕ) where
+    pub opened : (c : Circuit) (a : OpenedIn) → d .ready ≡ true → OpensIn (decideOf (tableIn (d .heading) keys rests) c 3) keys′ rests′ a
+        → Printed openingRoom l at (openLine (c .number) (a .answer) ++ moveLines (listed (a .moves))) l′ e
+        → HasRun (runOpen (deskOf d keys rests) c) l at keys′ rests′ l′ (record { desk = record { heading = a .heading; ready = true }; next = e })
+    unfolding runOpen
+    opened c a h k p = record {
+      desk = rw h (desk-held _ (a .heading) keys′ rests′ (k .after));
+      text = rw (h, ← k .answer, ← k .moves) p;
+      keeps = keeps-held _ (a .heading) keys′ rests′ (k .after);
+    }
+
+    pub closed : (n : ℕ) (a : ClosedIn) → d .ready ≡ true → ClosesIn (closeOf (tableIn (d .heading) keys rests) n) keys′ rests′ a
+        → Printed closeRoom l at (closeLine n (a .verdict)) l′ e
+        → HasRun (runClose (deskOf d keys rests) n) l at keys′ rests′ l′ (record { desk = record { heading = a .heading; ready = true }; next = e })
+    unfolding runClose
+    closed n a h k p = record {
+      desk = rw h (desk-held _ (a .heading) keys′ rests′ (k .after));
+      text = rw (h, ← k .verdict) (wider (omega arith) p);
+      keeps = keeps-held _ (a .heading) keys′ rests′ (k .after);
+    }
+
+  module _ (l′ : List ℕ) (e n w : ℕ) (ks : List ℕ) (a : Answered) (k : a ≡ makeOf n ks) (i : w ≡ wavelengths (a .table .ports))
+      (p : Printed ringRoom l at (ringLine n w (a .verdict)) l′ e) where
+    pub ring-meets : a .verdict ≡ granted → meetsRules (a .table) ≡ true
+    ring-meets h = rw k (make-rules n ks (rw k at h))
+
+    pub ringed : (keys′ rests′ : List ℕ) (h : Heading) → a .verdict ≡ granted → HoldsTable (a .table) h keys′ rests′
+        → HasRun (runRing (deskOf d keys rests) n ks) l at keys′ rests′ l′ (record { desk = record { heading = h; ready = true }; next = e })
+    unfolding runRing
+    ringed keys′ rests′ h g H = record {
+      desk = desk-held (a .table) h keys′ rests′ H ∙ rw (← k, g);
+      text = rw (← k, ← i) (wider (omega arith) p);
+      keeps = keeps-held (a .table) h keys′ rests′ H;
+    }
+
+    pub not-ringed : (r : Refusal) → a .verdict ≡ refused r → HasRun (runRing (deskOf d keys rests) n ks) l at keys rests l′ (record { desk = d; next = e })
+    unfolding runRing
+    not-ringed r h = record { desk = rw (← k, h); text = rw (← k, ← i) (wider (omega arith) p); keeps = s .keeps }
+
+-- the lists are as long as they were
+pub held-keys-long : (t : RingTable) (h : Heading) (keys rests k₀ : List ℕ) → length k₀ ≡ mostCircuits → HoldsTable t h keys rests → length keys ≡ length k₀
+held-keys-long t h keys rests k₀ e H = held-long t h keys rests H .0 ∙ sym e
+
+pub held-rests-long : (t : RingTable) (h : Heading) (keys rests r₀ : List ℕ) → length r₀ ≡ mostCircuits → HoldsTable t h keys rests → length rests ≡ length r₀
+held-rests-long t h keys rests r₀ e H = held-long t h keys rests H .1 ∙ sym e
+
+pub ruleset running = (run-room, run-held, run-keys, run-rests, refused-line, refused-open, refused-close, opened, closed, ring-meets, ringed, not-ringed)
 
 -- the request that the line was parsed as
-pub line-run : (line : List ℕ) (p : Line) (q : Request) (d : Desk) (l : List ℕ) (at : ℕ) (l′ : List ℕ) (r : Ran)
-    → p ≡ parseLine line → p .request ≡ q → HasRun (run d q (p .ports)) l at l′ r → HasRun (runLine d line) l at l′ r
-line-run line p q d l at l′ r k i m = rw (← k, i) m
+pub line-run : (line : List ℕ) (p : Line) (q : Request) (d : Desk) (l : List ℕ) (at : ℕ) (keys rests l′ : List ℕ) (r : Ran)
+    → p ≡ parseLine line → p .request ≡ q → HasRun (run d q (p .ports)) l at keys rests l′ r → HasRun (runLine d line) l at keys rests l′ r
+line-run line p q d l at keys rests l′ r k i m = rw (← k, i) m

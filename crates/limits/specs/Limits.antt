@@ -28,6 +28,10 @@ mostPorts = 64
 abbrev pub mostTotal : ℕ
 mostTotal = 192
 
+-- each circuit has a port of its source, so a ring has at most as many circuits
+abbrev pub mostCircuits : ℕ
+mostCircuits = mostTotal
+
 -- the host lends a list of move records, at least three
 abbrev pub leastRecords : ℕ
 leastRecords = 3

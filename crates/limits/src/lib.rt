@@ -22,6 +22,9 @@ pub const MOST_PORTS: u8 = 64;
 // The ports of all nodes together at most.
 pub const MOST_TOTAL: u16 = 192;
 
+// The circuits of a ring at most: each has a port of its source.
+pub const MOST_CIRCUITS: usize = MOST_TOTAL as usize;
+
 // The move records that a host lends at least.
 pub const LEAST_RECORDS: usize = 3;
 

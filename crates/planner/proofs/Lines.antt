@@ -1,6 +1,6 @@
 -- A line run: what its questions ask for, and what is left. Assumes nothing.
 use Prim.Native.Nat.{ℕ, _+_, _-_, _*_, _≤_}
-use mathlib.Core.Path.{_≡_, refl, _∙_}
+use mathlib.Core.Path.{_≡_, refl, ap, _∙_}
 use mathlib.Core.Bool.{Bool, true, false}
 use mathlib.Core.List.{List, _++_}
 use native.Mathlib.Omega.{arith}
@@ -8,7 +8,7 @@ use lib.Dec.{leb}
 use lib.ListN.{length, take, drop, length-take, length-drop}
 use lib.Seq.{take-at, length-take-le}
 use borrow.Author.Tests.{leb-true, le-ltb}
-use Rattle.limits.specs.Limits.{mostNodes, tidyRecords}
+use Rattle.limits.specs.Limits.{mostNodes, mostCircuits, tidyRecords}
 use Rattle.moves.specs.MoveList.{recorded}
 use Rattle.buffer.specs.Put.{Printed}
 use Rattle.refusals.specs.declared.Verdict.the-variants.{Granted as granted}
@@ -18,6 +18,10 @@ use Rattle.ring.specs.declared.RingTable.{RingTable}
 use Rattle.ring.specs.declared.TidyDecision.{TidyDecision}
 use Rattle.ring.proofs.TableRules.{few-nodes}
 use Rattle.ring.proofs.Rounds.{tidy-long, few-moves, tidy-rules}
+use Rattle.roster.specs.declared.Heading.{Heading}
+use Rattle.roster.specs.Roster.{placesOf}
+use Rattle.roster.specs.Held.{Holds, tableIn, HoldsTable}
+use Rattle.roster.proofs.Holding.{held-table, held-most}
 use Rattle.print.specs.Answers.{moveLines}
 use Rattle.form.specs.Form.{formOf, longestForm}
 use Rattle.load.specs.Load.{loads}
@@ -28,46 +32,79 @@ use Rattle.commands.specs.declared.Command.the-variants.{Read, Desk as desk}
 use Rattle.commands.specs.Command.{longestCommand, commandOf}
 use Rattle.inventory.specs.Lines.{formLine, formRoom, loadLine, loadRoom, linkLine}
 use Rattle.desk.specs.Desk.{Outcome, HasRun, deskWith}
-use Rattle.desk.specs.declared.Desk.{Desk}
+use Rattle.desk.specs.declared.DeskState.{DeskState}
 use Rattle.desk.specs.declared.Ran.{Ran}
+use Rattle.desk.proofs.Running.{keeps-held}
 use Rattle.answer_room.specs.Line.{CanAnswer, LineAnswered}
 use Rattle.saved_forms.specs.Saved.{FormIn}
 use Rattle.tidy_lines.specs.Lines.{tidyLine, tidyRoom}
-use Rattle.planner.specs.Asks.{Asks}
+use Rattle.planner.specs.Asks.{Asks, OnlyAnswered}
 use Rattle.planner.specs.Tidy.{tidying, HasTidied}
 
--- a question of a desk that has a table
-module _ (d : Desk) (l : List ℕ) (at : ℕ) (r : CanAnswer d l at) where
-  pub asks : d .ready ≡ true → Asks (d .table) l at
-  asks h = record { rules = r .rules h; room = r .room }
-
 -- a desk without a table has none
-pub unready : (d : Desk) → d .ready ≡ false → d .ready ≡ true → ⊥
+pub unready : (d : DeskState) → d .ready ≡ false → d .ready ≡ true → ⊥
 unready d h k = let z : _≡_ {A = ℕ} 0 1 = cc in omega arith
 
--- a tidying of its table
-module _ (d : Desk) (l : List ℕ) (at : ℕ) (q : CanAnswer d l at) (ready : d .ready ≡ true) where
-  pub tidy-valid : meetsRules (d .table) ≡ true
-  tidy-valid = q .rules ready
-
-  module _ (a : TidyDecision) (e : a ≡ tidying (d .table)) where
-    pub tidy-few : a .moves .count ≤ tidyRecords
-    tidy-few = rw (e, ← tidy-long (d .table) tidyRecords tidy-valid (tidyingBy (d .table) granted) (omega arith) refl) (few-moves (d .table) tidy-valid)
-
-    module _ (l′ : List ℕ) (next : ℕ) (p : Printed tidyRoom l at (tidyLine (a .tidied .answer) ++ moveLines (recorded (a .moves))) l′ next) where
-      pub tidy-answered : LineAnswered l at l′ (record { desk = deskWith (a .tidied .table); next = next })
-      tidy-answered =
-          record { rules = λ h. rw e (tidy-rules (d .table) tidy-valid tidyRecords); some = record { text = _; put = p .put }; short = omega (arith, p .short) }
-
-      pub tidy-tidied : HasTidied (d .table) l at l′ (record { desk = deskWith (a .tidied .table); next = next })
-      tidy-tidied = record { lines = rw (← e) p; desk = rw e }
-
-pub ruleset tidied = (unready, tidy-valid, tidy-few, tidy-answered, tidy-tidied)
-
 -- a line that the desk ran
-pub run-answered : (o : Outcome) (l : List ℕ) (at : ℕ) (l′ : List ℕ) (r : Ran) → HasRun o l at l′ r → LineAnswered l at l′ r
-run-answered o l at l′ r e =
-    record { rules = e .rules; some = record { text = o .text; put = e .text .put }; short = omega (arith, e .text .short) }
+pub run-answered : (o : Outcome) (l : List ℕ) (at : ℕ) (keys rests l′ : List ℕ) (r : Ran) → HasRun o l at keys rests l′ r → LineAnswered l at keys rests l′ r
+run-answered o l at keys rests l′ r e =
+    record { keeps = e .keeps; some = record { text = o .text; put = e .text .put }; short = omega (arith, e .text .short) }
+
+module _ (d : DeskState) (keys rests l : List ℕ) (at : ℕ) (q : CanAnswer d keys rests l at) where
+  -- a line that changes nothing
+  pub only-answered : (l′ : List ℕ) (r : Ran) → OnlyAnswered d l at l′ r → LineAnswered l at keys rests l′ r
+  only-answered l′ r a = record { keeps = rw (a .desk) (q .keeps); some = a .text .some; short = a .text .short }
+
+  pub long-keys : length keys ≡ mostCircuits
+  long-keys = q .keeps .longKeys
+
+  pub long-rests : length rests ≡ mostCircuits
+  long-rests = q .keeps .longRests
+
+  -- the table of an accepted ring
+  module _ (ready : d .ready ≡ true) where
+    held : HoldsTable (tableIn (d .heading) keys rests) (d .heading) keys rests
+    held = q .keeps .held ready
+
+    most : d .heading .count ≤ mostCircuits
+    most = held-most (tableIn (d .heading) keys rests) (d .heading) keys rests held
+
+    pub keys-within : d .heading .count ≤ length keys
+    keys-within = omega (arith, most, long-keys)
+
+    pub rests-within : d .heading .count ≤ length rests
+    rests-within = omega (arith, most, long-rests)
+
+    -- its entries are the keys and the rests
+    pub held-entries : Holds (d .heading .nodes) (d .heading .ports) (placesOf keys rests (d .heading .count)) keys rests (d .heading .count)
+    held-entries = held .holds
+
+    module _ (t : RingTable) (is : t ≡ tableIn (d .heading) keys rests) where
+      pub held-valid : meetsRules t ≡ true
+      held-valid = rw is (held .holds .rules)
+
+      -- it can be asked
+      pub asks : Asks t l at
+      asks = record { rules = held-valid; room = q .room }
+
+      -- and tidied
+      module _ (a : TidyDecision) (e : a ≡ tidying t) where
+        pub tidy-few : a .moves .count ≤ tidyRecords
+        tidy-few = rw (e, ← tidy-long t tidyRecords held-valid (tidyingBy t granted) (omega arith) refl) (few-moves t held-valid)
+
+        pub tidied-valid : meetsRules (a .tidied .table) ≡ true
+        tidied-valid = rw e (tidy-rules t held-valid tidyRecords)
+
+        module _ (keys′ rests′ l′ : List ℕ) (h : Heading) (next : ℕ) (H : HoldsTable (a .tidied .table) h keys′ rests′)
+            (p : Printed tidyRoom l at (tidyLine (a .tidied .answer) ++ moveLines (recorded (a .moves))) l′ next) where
+          pub tidy-answered : LineAnswered l at keys′ rests′ l′ (record { desk = record { heading = h; ready = true }; next = next })
+          tidy-answered =
+              record { keeps = keeps-held (a .tidied .table) h keys′ rests′ H; some = record { text = _; put = p .put }; short = omega (arith, p .short) }
+
+          pub tidy-tidied : HasTidied (tableIn (d .heading) keys rests) l at keys′ rests′ l′ (record { desk = record { heading = h; ready = true }; next = next })
+          tidy-tidied = rw (← is) (record { lines = rw (← e) p; desk = ap deskWith (held-table (a .tidied .table) h keys′ rests′ H) ∙ rw e })
+
+pub ruleset tidied = (long-keys, long-rests, keys-within, rests-within, held-valid, tidy-few, tidied-valid)
 
 -- the form of a table as a line
 pub form-short : (t : RingTable) (form : List ℕ) (n : ℕ) → FormIn t form n → length (take n form) ≤ longestForm

@@ -17,7 +17,7 @@ use Rattle.requests.specs.declared.Request.the-variants.{Bad}
 use Rattle.requests.specs.Line.{longestLine, parseWords, parseLine}
 use Rattle.commands.specs.declared.Command.{Command}
 use Rattle.commands.proofs.Command.{the-type}
-use Rattle.commands.specs.declared.Command.the-variants.{Read, ReadFile, Frequency, Wavelength, Tidy, Desk}
+use Rattle.commands.specs.declared.Command.the-variants.{Read, ReadFile, Frequency, Wavelength, Tidy, From, Desk}
 use Rattle.commands.specs.Command.{longestCommand, commandWords, commandOf}
 
 -- texts that are the same are one
@@ -80,8 +80,11 @@ module _ (l : List ℕ) (r : Command) (e : r ≡ commandOf l) (k : commandOf l �
   pub not-tidy : r ≡ Tidy → ⊥
   not-tidy h = let i : Tidy ≡ Desk = sym h ∙ e ∙ k in let one : _≡_ {A = ℕ} 0 1 = cc in omega arith
 
+  pub not-from : (n : ℕ) → r ≡ From n → ⊥
+  not-from n h = let i : From n ≡ Desk = sym h ∙ e ∙ k in let one : _≡_ {A = ℕ} 0 1 = cc in omega arith
+
   -- nor is a question: by its position
   pub not-question : OneOf questions (tagOf the-type r) → ⊥
   not-question o = let i : r ≡ Desk = e ∙ k in let p : OneOf questions (tagOf the-type Desk) = rw i at o in miss questions (tagOf the-type Desk) tt p
 
-pub ruleset commands = (not-read, not-read-file, not-frequency, not-wavelength, not-tidy)
+pub ruleset commands = (not-read, not-read-file, not-frequency, not-wavelength, not-tidy, not-from)

@@ -9,7 +9,7 @@ use Rattle.ring.specs.declared.RingTable.{RingTable}
 use Rattle.ring.specs.declared.TidyDecision.{TidyDecision}
 use Rattle.buffer.specs.Put.{Printed}
 use Rattle.print.specs.Answers.{moveLines}
-use Rattle.desk.specs.Desk.{deskWith}
+use Rattle.desk.specs.Desk.{deskOf, deskWith}
 use Rattle.desk.specs.declared.Ran.{Ran}
 use Rattle.tidy_lines.specs.Lines.{tidyLine, tidyRoom}
 
@@ -17,7 +17,7 @@ use Rattle.tidy_lines.specs.Lines.{tidyLine, tidyRoom}
 abbrev pub tidying : RingTable → TidyDecision
 tidying t = decideTidyOf t tidyRecords
 
--- its line and its move lines stand in the lent bytes, and its table is the desk's
-pub record HasTidied (t : RingTable) (l : List ℕ) (at : ℕ) (l′ : List ℕ) (r : Ran) : Type 0 where
+-- its line and its move lines stand in the lent bytes, and its table is the desk's, in the keys and the rests
+pub record HasTidied (t : RingTable) (l : List ℕ) (at : ℕ) (keys rests l′ : List ℕ) (r : Ran) : Type 0 where
   pub lines : Printed tidyRoom l at (tidyLine (tidying t .tidied .answer) ++ moveLines (recorded (tidying t .moves))) l′ (r .next)
-  pub desk : r .desk ≡ deskWith (tidying t .tidied .table)
+  pub desk : deskOf (r .desk) keys rests ≡ deskWith (tidying t .tidied .table)

@@ -1,20 +1,23 @@
-// One line of the planner's program, run and answered as bytes.
+// One line of the planner's program, run and answered as bytes. The circuits stand in keys and rests that the caller lends, and are changed
+// there.
 mod ask;
 
 ghost use mathlib.Core.Path.{_≡_};
 ghost use mathlib.Core.Bool.{true};
-ghost use Prim.Native.Nat.{_≤_};
+ghost use Prim.Native.Nat.{_+_, _≤_};
 ghost use lib.ListN.{length};
+ghost use Rattle.roster.specs.Held.{tableIn};
 ghost use Rattle.commands.specs.Command.{longestCommand, commandOf};
-ghost use Rattle.desk.specs.Desk.{runLine, HasRun};
+ghost use Rattle.desk.specs.Desk.{deskOf, runLine, HasRun};
 ghost use Rattle.buffer.specs.Appended.{Appended};
 ghost use Rattle.answer_room.specs.Room.{lineRoom};
 ghost use Rattle.answer_room.specs.Line.{CanAnswer, LineAnswered};
-ghost use Rattle.planner.specs.Asks.{Asks};
+ghost use Rattle.planner.specs.Asks.{Asks, OnlyAnswered};
 ghost use Rattle.planner.specs.Tidy.{HasTidied};
+ghost use Rattle.planner.specs.From.{HasLooked};
 use commands::Command;
 use commands::MOST_READ;
-use desk::Desk;
+use desk::DeskState;
 use desk::Ran;
 use grid::GridPlan;
 use hex::Digits;
@@ -22,23 +25,32 @@ use limits::TIDY_RECORDS;
 use ring::RingTable;
 
 // Prints `line refused`, and nothing changes.
-fn refuse(desk: Desk, out: &mut [u8], at: usize) -> Ran
-    requires { ⌜ CanAnswer desk (now out) at ⌝ }
-    ensures { λ r. ⌜ LineAnswered (now (out .entry)) at (now (out .exit)) r ⌝ }
+fn refuse(desk: DeskState, out: &mut [u8], at: usize) -> Ran
+    requires { ⌜ at + lineRoom ≤ length (now out) ⌝ }
+    ensures { λ r. ⌜ OnlyAnswered desk (now (out .entry)) at (now (out .exit)) r ⌝ }
 {
     let next = print::put_line_refused(out, at);
     Ran { desk, next }
 }
 
 // `read FORM` with the form's digits.
-fn run_read(desk: Desk, word: &[u8], out: &mut [u8], at: usize) -> Ran
-    requires { ⌜ CanAnswer desk (now out) at × (length (now word) ≤ longestCommand) ⌝ }
-    ensures { λ r. ⌜ LineAnswered (now (out .entry)) at (now (out .exit)) r ⌝ }
+fn run_read(
+    desk: DeskState,
+    keys: &mut [u64],
+    rests: &mut [u64],
+    word: &[u8],
+    out: &mut [u8],
+    at: usize,
+) -> Ran
+    requires { ⌜ CanAnswer desk (now keys) (now rests) (now out) at × (length (now word) ≤ longestCommand) ⌝ }
+    ensures { λ r. ⌜ LineAnswered (now (out .entry)) at (now (keys .exit)) (now (rests .exit)) (now (out .exit)) r ⌝ }
 {
     let mut form = [0u8; MOST_READ];
     let digits = saved_forms::read_word(word, &mut form);
     match digits {
-        Digits::Bytes(count) => saved_forms::take_form(desk, &form[..count], out, at),
+        Digits::Bytes(count) => {
+            saved_forms::take_form(desk, keys, rests, &form[..count], out, at)
+        }
         Digits::Bad => refuse(desk, out, at),
     }
 }
@@ -63,68 +75,112 @@ fn answer(table: RingTable, command: Command, line: &[u8], out: &mut [u8], at: u
     }
 }
 
-// A question of the table, which is refused where there is none.
-fn run_question(desk: Desk, command: Command, line: &[u8], out: &mut [u8], at: usize) -> Ran
-    requires { ⌜ CanAnswer desk (now out) at × (command ≡ commandOf (now line)) ⌝ }
-    ensures { λ r. ⌜ LineAnswered (now (out .entry)) at (now (out .exit)) r ⌝ }
+// A question of the table that the keys and the rests are of, which is refused where there is none.
+fn run_question(
+    desk: DeskState,
+    keys: &[u64],
+    rests: &[u64],
+    command: Command,
+    line: &[u8],
+    out: &mut [u8],
+    at: usize,
+) -> Ran
+    requires { ⌜ CanAnswer desk (now keys) (now rests) (now out) at × (command ≡ commandOf (now line)) ⌝ }
+    ensures { λ r. ⌜ OnlyAnswered desk (now (out .entry)) at (now (out .exit)) r ⌝ }
 {
     if !desk.ready {
         return refuse(desk, out, at);
     }
-    let table = desk.table;
+    let heading = desk.heading;
+    let table = roster::table_in(heading, keys, rests);
     let next = answer(table, command, line, out, at);
     Ran { desk, next }
 }
 
 // `frequency SPACING START WAVELENGTH`, which needs no table.
-fn run_frequency(desk: Desk, plan: GridPlan, wavelength: u32, out: &mut [u8], at: usize) -> Ran
-    requires { ⌜ CanAnswer desk (now out) at ⌝ }
-    ensures { λ r. ⌜ LineAnswered (now (out .entry)) at (now (out .exit)) r ⌝ }
+fn run_frequency(desk: DeskState, plan: GridPlan, wavelength: u32, out: &mut [u8], at: usize) -> Ran
+    requires { ⌜ at + lineRoom ≤ length (now out) ⌝ }
+    ensures { λ r. ⌜ OnlyAnswered desk (now (out .entry)) at (now (out .exit)) r ⌝ }
 {
     let next = lasers::answer_frequency(plan, wavelength, out, at);
     Ran { desk, next }
 }
 
 // `wavelength SPACING START FREQUENCY`, which needs none either.
-fn run_wavelength(desk: Desk, plan: GridPlan, frequency: u32, out: &mut [u8], at: usize) -> Ran
-    requires { ⌜ CanAnswer desk (now out) at ⌝ }
-    ensures { λ r. ⌜ LineAnswered (now (out .entry)) at (now (out .exit)) r ⌝ }
+fn run_wavelength(desk: DeskState, plan: GridPlan, frequency: u32, out: &mut [u8], at: usize) -> Ran
+    requires { ⌜ at + lineRoom ≤ length (now out) ⌝ }
+    ensures { λ r. ⌜ OnlyAnswered desk (now (out .entry)) at (now (out .exit)) r ⌝ }
 {
     let next = lasers::answer_wavelength(plan, frequency, out, at);
     Ran { desk, next }
 }
 
 // `tidy`, with 128 records lent, which is refused where there is no table.
-fn run_tidy(desk: Desk, out: &mut [u8], at: usize) -> Ran
-    requires { ⌜ CanAnswer desk (now out) at ⌝ }
-    ensures answer { λ r. ⌜ LineAnswered (now (out .entry)) at (now (out .exit)) r ⌝ }
-    ensures tidies { λ r. ⌜ (desk .ready ≡ true → HasTidied (desk .table) (now (out .entry)) at (now (out .exit)) r) ⌝ }
+fn run_tidy(desk: DeskState, keys: &mut [u64], rests: &mut [u64], out: &mut [u8], at: usize) -> Ran
+    requires { ⌜ CanAnswer desk (now keys) (now rests) (now out) at ⌝ }
+    ensures answer { λ r. ⌜ LineAnswered (now (out .entry)) at (now (keys .exit)) (now (rests .exit)) (now (out .exit)) r ⌝ }
+    ensures tidies { λ r. ⌜ (desk .ready ≡ true → HasTidied (tableIn (desk .heading) (now (keys .entry)) (now (rests .entry))) (now (out .entry)) at (now (keys .exit)) (now (rests .exit)) (now (out .exit)) r) ⌝ }
 {
     if !desk.ready {
         return refuse(desk, out, at);
     }
-    let decision = desk.table.decide_tidy_valid(TIDY_RECORDS);
+    let heading = desk.heading;
+    let table = roster::table_in(heading, keys, rests);
+    let decision = table.decide_tidy_valid(TIDY_RECORDS);
     let tidied = decision.tidied;
     let answer = tidied.answer;
     let next = tidy_lines::put_tidying(out, at, answer, decision.moves);
-    let table = tidied.table;
+    let heading = roster::hold(keys, rests, tidied.table);
     Ran {
-        desk: Desk { ready: true, table },
+        desk: DeskState {
+            heading,
+            ready: true,
+        },
         next,
     }
 }
 
+// `from NODE`, from the node's row of the keys and the rests; it is refused where there is no table.
+fn run_from(
+    desk: DeskState,
+    keys: &[u64],
+    rests: &[u64],
+    node: u8,
+    out: &mut [u8],
+    at: usize,
+) -> Ran
+    requires { ⌜ CanAnswer desk (now keys) (now rests) (now out) at ⌝ }
+    ensures answer { λ r. ⌜ OnlyAnswered desk (now (out .entry)) at (now (out .exit)) r ⌝ }
+    ensures looks { λ r. ⌜ (desk .ready ≡ true → HasLooked (tableIn (desk .heading) (now (keys .entry)) (now (rests .entry))) node (now (out .entry)) at (now (out .exit)) r) ⌝ }
+{
+    if !desk.ready {
+        return refuse(desk, out, at);
+    }
+    let heading = desk.heading;
+    let next = row_lines::put_from(out, at, heading, keys, rests, node);
+    Ran { desk, next }
+}
+
 // Runs a line without its line end, and writes the answer at a position of the lent bytes. One that is no command is run as the script
 // program runs it.
-pub fn run_line(desk: Desk, line: &[u8], out: &mut [u8], at: usize) -> Ran
-    requires { ⌜ CanAnswer desk (now out) at ⌝ }
-    ensures answer { λ r. ⌜ LineAnswered (now (out .entry)) at (now (out .exit)) r ⌝ }
-    ensures script { λ r. ⌜ (commandOf (now (line .entry)) ≡ Command.Desk → HasRun (runLine desk (now (line .entry))) (now (out .entry)) at (now (out .exit)) r) ⌝ }
+pub fn run_line(
+    desk: DeskState,
+    keys: &mut [u64],
+    rests: &mut [u64],
+    line: &[u8],
+    out: &mut [u8],
+    at: usize,
+) -> Ran
+    requires { ⌜ CanAnswer desk (now keys) (now rests) (now out) at ⌝ }
+    ensures answer { λ r. ⌜ LineAnswered (now (out .entry)) at (now (keys .exit)) (now (rests .exit)) (now (out .exit)) r ⌝ }
+    ensures script { λ r. ⌜ (commandOf (now (line .entry)) ≡ Command.Desk → HasRun (runLine (deskOf desk (now (keys .entry)) (now (rests .entry))) (now (line .entry))) (now (out .entry)) at (now (keys .exit)) (now (rests .exit)) (now (out .exit)) r) ⌝ }
 {
     let command = commands::parse_command(line);
     match command {
-        Command::Read(start) => run_read(desk, &line[start..], out, at),
-        Command::ReadFile(start) => saved_forms::run_read_file(desk, &line[start..], out, at),
+        Command::Read(start) => run_read(desk, keys, rests, &line[start..], out, at),
+        Command::ReadFile(start) => {
+            saved_forms::run_read_file(desk, keys, rests, &line[start..], out, at)
+        }
         Command::Frequency {
             spacing,
             start,
@@ -135,8 +191,9 @@ pub fn run_line(desk: Desk, line: &[u8], out: &mut [u8], at: usize) -> Ran
             start,
             frequency,
         } => run_wavelength(desk, GridPlan { spacing, start }, frequency, out, at),
-        Command::Tidy => run_tidy(desk, out, at),
-        Command::Desk => desk::run_line(desk, line, out, at),
-        _ => run_question(desk, command, line, out, at),
+        Command::Tidy => run_tidy(desk, keys, rests, out, at),
+        Command::From { node } => run_from(desk, keys, rests, node, out, at),
+        Command::Desk => desk::run_line(desk, keys, rests, line, out, at),
+        _ => run_question(desk, keys, rests, command, line, out, at),
     }
 }

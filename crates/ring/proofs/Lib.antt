@@ -9,4 +9,4 @@ pub mod ShorterWay
 pub mod Closing
 pub mod Making
 pub mod Rounds
-mod Lending
+pub mod Lending

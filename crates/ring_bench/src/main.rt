@@ -1,9 +1,13 @@
-// Asks something of a saved ring over and over, for `bench/load` and `bench/tidy` to time: `ring_bench KIND COUNT < FORM` makes the load report
-// of the form's table, which meets the ring rules, COUNT times and writes the last one. KIND is `walk` for the report as it is, `afresh` for
-// the loads counted afresh for each link, or `copy` for so many copies of the table and one report. With `tidy` it tidies the table COUNT
-// times, and writes the last tidying's rounds, moves and records, and the saved form of the tidied table.
+// Asks something of a saved ring over and over, for `bench/load`, `bench/tidy` and `bench/from` to time: `ring_bench KIND COUNT < FORM` makes
+// the load report of the form's table, which meets the ring rules, COUNT times and writes the last one. KIND is `walk` for the report as it is,
+// `afresh` for the loads counted afresh for each link, or `copy` for so many copies of the table and one report. With `tidy` it tidies the
+// table COUNT times, and writes the last tidying's rounds, moves and records, and the saved form of the tidied table. With `from` it looks up
+// the circuits of each node, 1 to N in turn, COUNT times over in a roster, with `scan` at the table's places, and writes a checksum of what is
+// found, four bytes, highest first.
 
 mod afresh;
+mod lookups;
+mod scan;
 mod tidying;
 
 ghost use mathlib.Core.Path.{_≡_};
@@ -13,6 +17,7 @@ ghost use lib.ListN.{length};
 ghost use Rattle.limits.specs.Limits.{mostNodes};
 ghost use Rattle.ring.specs.Table.{meetsRules};
 use form::LONGEST_FORM;
+use form::NUMBER_WIDTH;
 use libc::STDERR_FILENO;
 use libc::STDIN_FILENO;
 use libc::STDOUT_FILENO;
@@ -85,7 +90,7 @@ fn repeat(kind: u8, table: RingTable, count: u32, out: &mut [u8])
         _ => {
             io::write_all(
                 STDERR_FILENO,
-                b"ring_bench: KIND is walk, afresh, copy or tidy\n",
+                b"ring_bench: KIND is walk, afresh, copy, tidy, from or scan\n",
             );
         }
     }
@@ -116,14 +121,22 @@ fn run_tidy(table: RingTable, count: u32)
     io::write_all(STDOUT_FILENO, &form[..formed]);
 }
 
-// A tidying or a report.
+// Writes a checksum, highest byte first.
+fn write_sum(sum: u32) {
+    let mut out = [0u8; NUMBER_WIDTH];
+    byte_numbers::put_number(&mut out, 0, sum, NUMBER_WIDTH);
+    io::write_all(STDOUT_FILENO, &out);
+}
+
+// What is asked for, by its first letter.
 fn run(kind: u8, table: RingTable, count: u32)
     requires { ⌜ meetsRules table ≡ true ⌝ }
 {
-    if kind == b't' {
-        run_tidy(table, count);
-    } else {
-        run_load(kind, table, count);
+    match kind {
+        b't' => run_tidy(table, count),
+        b'f' => write_sum(lookups::by_rows(table, count)),
+        b's' => write_sum(scan::by_places(table, count)),
+        _ => run_load(kind, table, count),
     }
 }
 

@@ -1,9 +1,11 @@
 -- What the planner's program keeps to between two reads. Assumes nothing.
 use Prim.Native.Nat.{ℕ, _+_, _≤_}
+use mathlib.Core.Bool.{false}
 use mathlib.Core.List.{List}
-use lib.ListN.{length}
+use lib.ListN.{length, replicate}
+use Rattle.limits.specs.Limits.{portFields}
 use Rattle.commands.specs.Command.{longestCommand}
-use Rattle.desk.specs.Desk.{emptyDesk, KeepsRules}
+use Rattle.desk.specs.Desk.{Keeps}
 use Rattle.answer_room.specs.Room.{lineRoom}
 use Rattle.ringplan.specs.declared.input.Held.{Held}
 use Rattle.ringplan.specs.declared.input.Spilled.{Spilled}
@@ -13,16 +15,16 @@ use Rattle.ringplan.specs.declared.input.Spilled.the-variants.{At, Faile
 abbrev pub heldRoom : ℕ
 heldRoom = longestCommand + 1
 
--- between two reads: the desk's table meets the ring rules, and there is room for a line and for an answer
-pub record BetweenReads (h : Held) (line out : List ℕ) : Type 0 where
-  pub rules : KeepsRules (h .desk)
+-- between two reads: the keys and the rests hold the desk's table, which meets the ring rules, and there is room for a line and for an answer
+pub record BetweenReads (h : Held) (keys rests line out : List ℕ) : Type 0 where
+  pub keeps : Keeps (h .desk) keys rests
   pub few : h .count ≤ heldRoom
   pub width : heldRoom ≤ length line
   pub room : lineRoom ≤ length out
 
 -- before the first byte
 abbrev pub startHeld : Held
-startHeld = record { desk = emptyDesk; count = 0 }
+startHeld = record { desk = record { heading = record { ports = replicate portFields 0; nodes = 0; count = 0 }; ready = false }; count = 0 }
 
 -- there is room for an answer at the position
 abbrev pub SpillRoom : List ℕ → Spilled → Type 0

@@ -1,4 +1,4 @@
-// Lines from the bytes as they come: a line is held until it ends, and then run.
+// Lines from the bytes as they come: a line is held until it ends, and then run. The desk's circuits stand in keys and rests that are lent.
 
 ghost use mathlib.Core.Path.{_≡_};
 ghost use Prim.Native.Nat.{_≤_};
@@ -6,16 +6,17 @@ ghost use lib.ListN.{length};
 ghost use Rattle.answer_room.specs.Room.{lineRoom};
 ghost use Rattle.ringplan.specs.Plan.{BetweenReads, SpillRoom, startHeld};
 use commands::LONGEST_COMMAND;
-use desk::Desk;
+use desk::DeskState;
 use libc::STDOUT_FILENO;
-use ring::RingTable;
+use limits::PORT_FIELDS;
+use roster::Heading;
 
 // A line's bytes, and one more by which a line is seen to be too long.
 pub const HELD_ROOM: usize = LONGEST_COMMAND + 1;
 
 // The desk, and how many bytes of a line are held.
 pub struct Held {
-    pub desk: Desk,
+    pub desk: DeskState,
     pub count: usize,
 }
 
@@ -30,9 +31,13 @@ pub fn start() -> Held
     ensures { λ r. ⌜ r ≡ startHeld ⌝ }
 {
     Held {
-        desk: Desk {
+        desk: DeskState {
+            heading: Heading {
+                ports: [0; PORT_FIELDS],
+                nodes: 0,
+                count: 0,
+            },
             ready: false,
-            table: RingTable::blank(),
         },
         count: 0,
     }
@@ -59,9 +64,16 @@ fn spill(out: &[u8], at: usize) -> Spilled
 }
 
 // Takes bytes in, runs the lines that end and writes their answers.
-pub fn feed(held: Held, line: &mut [u8], chunk: &[u8], out: &mut [u8]) -> Intake
-    requires { ⌜ BetweenReads held (now line) (now out) ⌝ }
-    ensures { λ r. ⌜ BetweenReads (r .held) (now (line .exit)) (now (out .exit)) ⌝ }
+pub fn feed(
+    held: Held,
+    keys: &mut [u64],
+    rests: &mut [u64],
+    line: &mut [u8],
+    chunk: &[u8],
+    out: &mut [u8],
+) -> Intake
+    requires { ⌜ BetweenReads held (now keys) (now rests) (now line) (now out) ⌝ }
+    ensures { λ r. ⌜ BetweenReads (r .held) (now (keys .exit)) (now (rests .exit)) (now (line .exit)) (now (out .exit)) ⌝ }
 {
     let mut desk = held.desk;
     let mut count = held.count;
@@ -71,7 +83,7 @@ pub fn feed(held: Held, line: &mut [u8], chunk: &[u8], out: &mut [u8]) -> Intake
         let byte = chunk[i];
         i += 1;
         if byte == b'\n' {
-            let ran = planner::run_line(desk, &line[..count], out, at);
+            let ran = planner::run_line(desk, keys, rests, &line[..count], out, at);
             desk = ran.desk;
             count = 0;
             match spill(out, ran.next) {

@@ -1,8 +1,10 @@
 // The planner's program: it runs lines from standard input and writes the answers to standard output.
 mod input;
 
+ghost use mathlib.Core.Path.{_≡_};
 ghost use Prim.Native.Nat.{_≤_};
-ghost use lib.ListN.{length};
+ghost use lib.ListN.{length, replicate};
+ghost use Rattle.limits.specs.Limits.{mostCircuits};
 ghost use Rattle.answer_room.specs.Room.{lineRoom};
 ghost use Rattle.ringplan.specs.Plan.{heldRoom, BetweenReads};
 use answer_room::LINE_ROOM;
@@ -10,6 +12,7 @@ use input::HELD_ROOM;
 use input::Held;
 use libc::STDERR_FILENO;
 use libc::STDIN_FILENO;
+use limits::MOST_CIRCUITS;
 
 // The bytes that answers are collected in: room for one of the most bytes and others before it.
 const OUT_ROOM: usize = 2 * LINE_ROOM;
@@ -31,9 +34,15 @@ struct Turn {
 }
 
 // Reads once, runs the lines that ended and writes their answers. The input ends where there is nothing to read.
-fn read_once(held: Held, line: &mut [u8], out: &mut [u8]) -> Turn
-    requires { ⌜ BetweenReads held (now line) (now out) ⌝ }
-    ensures { λ r. ⌜ BetweenReads (r .held) (now (line .exit)) (now (out .exit)) ⌝ }
+fn read_once(
+    held: Held,
+    keys: &mut [u64],
+    rests: &mut [u64],
+    line: &mut [u8],
+    out: &mut [u8],
+) -> Turn
+    requires { ⌜ BetweenReads held (now keys) (now rests) (now line) (now out) ⌝ }
+    ensures { λ r. ⌜ BetweenReads (r .held) (now (keys .exit)) (now (rests .exit)) (now (line .exit)) (now (out .exit)) ⌝ }
 {
     let mut buffer = [0u8; READ_SIZE];
     let got = libc::read(STDIN_FILENO, &mut buffer);
@@ -51,7 +60,7 @@ fn read_once(held: Held, line: &mut [u8], out: &mut [u8]) -> Turn
             next: Next::Finish,
         };
     }
-    let fed = input::feed(held, line, &buffer[..count], out);
+    let fed = input::feed(held, keys, rests, line, &buffer[..count], out);
     let held = fed.held;
     if fed.wrote {
         return Turn {
@@ -67,13 +76,13 @@ fn read_once(held: Held, line: &mut [u8], out: &mut [u8]) -> Turn
 }
 
 // Runs what is left when the input has ended.
-fn finish(held: Held, line: &mut [u8], out: &mut [u8])
-    requires { ⌜ BetweenReads held (now line) (now out) ⌝ }
+fn finish(held: Held, keys: &mut [u64], rests: &mut [u64], line: &mut [u8], out: &mut [u8])
+    requires { ⌜ BetweenReads held (now keys) (now rests) (now line) (now out) ⌝ }
 {
     if held.count == 0 {
         return;
     }
-    let fed = input::feed(held, line, b"\n", out);
+    let fed = input::feed(held, keys, rests, line, b"\n", out);
     if !fed.wrote {
         io::write_all(STDERR_FILENO, b"ringplan: write failed\n");
     }
@@ -81,13 +90,13 @@ fn finish(held: Held, line: &mut [u8], out: &mut [u8])
 
 // Reads to the end of the input. A proved loop has to end, and nothing says that the input does: it counts its reads down from a
 // number that no run uses up.
-fn run(line: &mut [u8], out: &mut [u8])
-    requires { ⌜ (heldRoom ≤ length (now line)) × (lineRoom ≤ length (now out)) ⌝ }
+fn run(keys: &mut [u64], rests: &mut [u64], line: &mut [u8], out: &mut [u8])
+    requires { ⌜ (now keys ≡ replicate mostCircuits 0) × (now rests ≡ replicate mostCircuits 0) × (heldRoom ≤ length (now line)) × (lineRoom ≤ length (now out)) ⌝ }
 {
     let mut held = input::start();
     let mut reads = u64::MAX;
     while reads > 0 {
-        let turn = read_once(held, line, out);
+        let turn = read_once(held, keys, rests, line, out);
         held = turn.held;
         let next = turn.next;
         match next {
@@ -96,7 +105,7 @@ fn run(line: &mut [u8], out: &mut [u8])
                 continue;
             }
             Next::Finish => {
-                finish(held, line, out);
+                finish(held, keys, rests, line, out);
                 return;
             }
             Next::Stop => return,
@@ -105,7 +114,9 @@ fn run(line: &mut [u8], out: &mut [u8])
 }
 
 fn main() {
+    let mut keys = [0u64; MOST_CIRCUITS];
+    let mut rests = [0u64; MOST_CIRCUITS];
     let mut line = [0u8; HELD_ROOM];
     let mut out = [0u8; OUT_ROOM];
-    run(&mut line, &mut out);
+    run(&mut keys, &mut rests, &mut line, &mut out);
 }

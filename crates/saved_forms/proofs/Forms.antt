@@ -11,14 +11,10 @@ use borrow.Author.Tests.{le-ltb}
 use Rattle.text.specs.Bytes.{bytes}
 use Rattle.words.specs.Split.{sameText}
 use Rattle.refusals.specs.declared.Refusal.{Refusal}
-use Rattle.refusals.specs.declared.Verdict.the-variants.{Granted as granted}
 use Rattle.ring.specs.Table.{meetsRules}
 use Rattle.ring.specs.declared.RingTable.{RingTable}
-use Rattle.ring.specs.declared.Answered.{Answered}
 use Rattle.form.specs.Form.{formOf, longestForm}
-use Rattle.form.specs.Reading.{readOf}
 use Rattle.form.proofs.Length.{form-most}
-use Rattle.form.proofs.Laws.{accepted-meets}
 use Rattle.encode.specs.declared.Written.{Written}
 use Rattle.encode.specs.declared.Written.the-variants.{Length, Refused}
 use Rattle.encode.specs.Answer.{writtenOf, bytesAfter}
@@ -28,7 +24,6 @@ use Rattle.hex.specs.Hex.{byteOf, isHex, bytesOf, Unhexed}
 use Rattle.files.specs.declared.FileRead.{FileRead}
 use Rattle.files.specs.declared.FileRead.the-variants.{Bytes as fileBytes}
 use Rattle.files.specs.Files.{Within}
-use Rattle.desk.specs.Desk.{KeepsRules, deskWith}
 use Rattle.saved_forms.specs.Saved.{FormIn, WordRead}
 
 -- two digits give at most one byte
@@ -98,7 +93,3 @@ module _ (t : RingTable) (l l′ : List ℕ) (meets : meetsRules t ≡ true) (wi
   form-not r i = let z : _≡_ {A = ℕ} 0 1 = cc (whole) in absurd (omega arith)
 
 pub ruleset forms = (no-bytes, some-bytes, word-within, file-within, form-in, form-not)
-
--- a form that is accepted gives a table that meets the ring rules
-pub accepted : (form : List ℕ) (a : Answered) → a ≡ readOf form → a .verdict ≡ granted → KeepsRules (deskWith (a .table))
-accepted form a e g = λ h. accepted-meets form a e g

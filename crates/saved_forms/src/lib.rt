@@ -1,4 +1,4 @@
-// Saved forms: read into the desk, and written from a table.
+// Saved forms: read into the desk, whose circuits stand in lent keys and rests, and written from a table.
 
 ghost use mathlib.Core.Path.{_≡_};
 ghost use mathlib.Core.Bool.{true};
@@ -9,7 +9,7 @@ ghost use Rattle.form.specs.Form.{longestForm};
 ghost use Rattle.answer_room.specs.Line.{CanAnswer, LineAnswered};
 ghost use Rattle.saved_forms.specs.Saved.{FormIn, WordRead};
 use commands::MOST_READ;
-use desk::Desk;
+use desk::DeskState;
 use desk::Ran;
 use encode::Written;
 use files::FileRead;
@@ -40,33 +40,53 @@ pub fn read_word(word: &[u8], form: &mut [u8]) -> Digits
     hex::read_hex(word, form)
 }
 
-// Reads a form: its table is the desk's where it is accepted.
-pub fn take_form(desk: Desk, form: &[u8], out: &mut [u8], at: usize) -> Ran
-    requires { ⌜ CanAnswer desk (now out) at ⌝ }
-    ensures { λ r. ⌜ LineAnswered (now (out .entry)) at (now (out .exit)) r ⌝ }
+// Reads a form: where it is accepted, the keys and the rests hold its table.
+pub fn take_form(
+    desk: DeskState,
+    keys: &mut [u64],
+    rests: &mut [u64],
+    form: &[u8],
+    out: &mut [u8],
+    at: usize,
+) -> Ran
+    requires { ⌜ CanAnswer desk (now keys) (now rests) (now out) at ⌝ }
+    ensures { λ r. ⌜ LineAnswered (now (out .entry)) at (now (keys .exit)) (now (rests .exit)) (now (out .exit)) r ⌝ }
 {
     let read = decode::read(form);
     let table = read.table;
     let verdict = read.verdict;
     let next = inventory::put_read(out, at, table.nodes, table.wavelengths(), verdict);
     match verdict {
-        Verdict::Granted => Ran {
-            desk: Desk { ready: true, table },
-            next,
-        },
+        Verdict::Granted => {
+            let heading = roster::hold(keys, rests, table);
+            Ran {
+                desk: DeskState {
+                    heading,
+                    ready: true,
+                },
+                next,
+            }
+        }
         Verdict::Refused(_) => Ran { desk, next },
     }
 }
 
 // `read @PATH`
-pub fn run_read_file(desk: Desk, path: &[u8], out: &mut [u8], at: usize) -> Ran
-    requires { ⌜ CanAnswer desk (now out) at ⌝ }
-    ensures { λ r. ⌜ LineAnswered (now (out .entry)) at (now (out .exit)) r ⌝ }
+pub fn run_read_file(
+    desk: DeskState,
+    keys: &mut [u64],
+    rests: &mut [u64],
+    path: &[u8],
+    out: &mut [u8],
+    at: usize,
+) -> Ran
+    requires { ⌜ CanAnswer desk (now keys) (now rests) (now out) at ⌝ }
+    ensures { λ r. ⌜ LineAnswered (now (out .entry)) at (now (keys .exit)) (now (rests .exit)) (now (out .exit)) r ⌝ }
 {
     let mut form = [0u8; MOST_READ];
     let read = files::read_file(path, &mut form);
     match read {
-        FileRead::Bytes(count) => take_form(desk, &form[..count], out, at),
+        FileRead::Bytes(count) => take_form(desk, keys, rests, &form[..count], out, at),
         FileRead::Failed => {
             let next = buffer::put_text(out, at, b"read failed\n");
             Ran { desk, next }

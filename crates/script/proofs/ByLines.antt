@@ -11,8 +11,7 @@ use borrow.Author.Tests.{leb-true, leb-false, lt-leb, ne-eqb}
 use Rattle.requests.specs.Line.{longestLine, parseLine}
 use Rattle.script.specs.Script.{lastLine, linesAfter, linesText, scriptText}
 use Rattle.script.specs.Bytes.{Script, byteAfter, byteText, after, texts, endText, mostHeld, startSession, scriptOf}
-use Rattle.desk.specs.Desk.{emptyDesk, runLine}
-use Rattle.desk.specs.declared.Desk.{Desk}
+use Rattle.desk.specs.Desk.{Desk, emptyDesk, runLine}
 
 -- a line of so many bytes is as bad as a longer one
 parse-cut : (l : List ℕ) → parseLine (take mostHeld l) ≡ parseLine l

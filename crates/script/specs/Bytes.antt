@@ -2,14 +2,15 @@
 -- What `start`, `feed` and `finish` promise.
 use Prim.Native.Nat.{ℕ, _+_, _*_, _≤_}
 use mathlib.Core.Path.{_≡_}
+use mathlib.Core.Bool.{false}
 use mathlib.Core.List.{List, [], _∷_, _++_}
 use lib.Dec.{eqb}
 use lib.ListN.{length, take, replicate}
 use Rattle.basis.specs.Choice.{pick}
 use Rattle.buffer.specs.Put.{Printed}
 use Rattle.requests.specs.Line.{longestLine}
-use Rattle.desk.specs.Desk.{emptyDesk, KeepsRules, runLine, answerRoom}
-use Rattle.desk.specs.declared.Desk.{Desk}
+use Rattle.limits.specs.Limits.{portFields, mostCircuits}
+use Rattle.desk.specs.Desk.{Desk, deskOf, Keeps, runLine, answerRoom}
 pub use Rattle.script.specs.declared.Session.{Session}
 pub use Rattle.script.specs.declared.Fed.{Fed}
 
@@ -44,16 +45,22 @@ endText s = pick (eqb (length (s .held)) 0) [] (runLine (s .desk) (s .held) .tex
 
 -- the session before the first byte
 abbrev pub startSession : Session
-startSession = record { desk = emptyDesk; line = replicate mostHeld 0; held = 0 }
+startSession = record {
+  keys = replicate mostCircuits 0;
+  rests = replicate mostCircuits 0;
+  desk = record { heading = record { ports = replicate portFields 0; nodes = 0; count = 0 }; ready = false };
+  line = replicate mostHeld 0;
+  held = 0;
+}
 
 -- the script that a session is: of its line the first bytes are held
 abbrev pub scriptOf : Session → Script
-scriptOf s = record { desk = s .desk; held = take (s .held) (s .line) }
+scriptOf s = record { desk = deskOf (s .desk) (s .keys) (s .rests); held = take (s .held) (s .line) }
 
 -- a session that holds at most so many bytes, at a desk whose table meets the ring rules; so it is before the first byte and after any bytes
 pub record ValidSession (s : Session) : Type 0 where
   pub held : s .held ≤ mostHeld
-  pub desk : KeepsRules (s .desk)
+  pub desk : Keeps (s .desk) (s .keys) (s .rests)
 
 -- bytes were taken in: the session is the script after them, and what they print stands at the start of the lent bytes. Left
 -- free: the session's bytes past the first `held`; no script has them, so nothing printed later depends on them

@@ -4,8 +4,7 @@ use Prim.Native.Nat.{ℕ}
 use mathlib.Core.List.{List, [], _∷_, _++_}
 use lib.Dec.{eqb}
 use Rattle.basis.specs.Choice.{pick}
-use Rattle.desk.specs.Desk.{emptyDesk, runLine}
-use Rattle.desk.specs.declared.Desk.{Desk}
+use Rattle.desk.specs.Desk.{Desk, emptyDesk, runLine}
 
 -- bytes after the last line end are a line; where there are none, there is no line
 abbrev pub lastLine : List ℕ → List (List ℕ)

@@ -7,17 +7,25 @@ ghost use Rattle.desk.specs.Desk.{answerRoom};
 use crate::Fed;
 use crate::MOST_HELD;
 use crate::Session;
-use desk::Desk;
-use ring::RingTable;
+use desk::DeskState;
+use limits::MOST_CIRCUITS;
+use limits::PORT_FIELDS;
+use roster::Heading;
 
 // Before the first byte: no ring was accepted, and no byte is held.
 pub fn start() -> Session
     ensures { λ r. ⌜ r ≡ startSession ⌝ }
 {
     Session {
-        desk: Desk {
+        keys: [0; MOST_CIRCUITS],
+        rests: [0; MOST_CIRCUITS],
+        desk: DeskState {
+            heading: Heading {
+                ports: [0; PORT_FIELDS],
+                nodes: 0,
+                count: 0,
+            },
             ready: false,
-            table: RingTable::blank(),
         },
         line: [0; MOST_HELD],
         held: 0,
@@ -29,6 +37,8 @@ pub fn feed(session: Session, chunk: &[u8], out: &mut [u8]) -> Fed
     requires { ⌜ ValidSession session × (answerRoom * length (now chunk) ≤ length (now out)) ⌝ }
     ensures { λ r. ⌜ Took session (now (chunk .entry)) (now (out .entry)) (now (out .exit)) r ⌝ }
 {
+    let mut keys = session.keys;
+    let mut rests = session.rests;
     let mut desk = session.desk;
     let mut line = session.line;
     let mut held = session.held;
@@ -38,7 +48,7 @@ pub fn feed(session: Session, chunk: &[u8], out: &mut [u8]) -> Fed
         let byte = chunk[i];
         i += 1;
         if byte == b'\n' {
-            let ran = desk::run_line(desk, &line[..held], out, at);
+            let ran = desk::run_line(desk, &mut keys, &mut rests, &line[..held], out, at);
             desk = ran.desk;
             at = ran.next;
             held = 0;
@@ -51,7 +61,13 @@ pub fn feed(session: Session, chunk: &[u8], out: &mut [u8]) -> Fed
         }
     }
     Fed {
-        session: Session { desk, line, held },
+        session: Session {
+            keys,
+            rests,
+            desk,
+            line,
+            held,
+        },
         wrote: at,
     }
 }

@@ -2,13 +2,13 @@
 //! output.
 
 use std::hint::black_box;
-use std::io::{self, Read, Write};
+use std::io::{self, Write};
 use std::process::ExitCode;
 
 use ring::arguments::Arguments;
-use ring::form;
 use ring::report::{loads_afresh, loads_in_one_walk};
 use ring::table::Table;
+use ring::timed::read_table;
 
 const USAGE: &str = "usage: reference-load --walk|--afresh COUNT < form > report
   --walk     make the report COUNT times by a running load from link to link
@@ -57,12 +57,6 @@ impl Task {
         };
         io::stdout().write_all(&report).map_err(|error| error.to_string())
     }
-}
-
-fn read_table() -> Result<Table, String> {
-    let mut form = Vec::new();
-    io::stdin().read_to_end(&mut form).map_err(|error| error.to_string())?;
-    form::read(&form).map_err(|refusal| format!("read refused {}", refusal.number()))
 }
 
 /// Has the report filled so many times, each time as if the table and the report were others.

@@ -1,20 +1,21 @@
 //! Tidies the table of a saved form many times over, to be timed: standard input to standard output.
 
 use std::hint::black_box;
-use std::io::{self, Read, Write};
+use std::io::{self, Write};
 use std::process::ExitCode;
 
 use ring::form::{self, FORM_MOST};
 use ring::opening::Move;
 use ring::table::Table;
 use ring::tidying::{Tidying, RECORDS_LEAST};
+use ring::timed::{only_count, read_table};
 
 const USAGE: &str = "usage: reference-tidy COUNT < form > tidied
   tidy the form's table COUNT times, each time anew, and write what the last time gave: a byte each
   for the rounds and the moves, six bytes for each move, and the form of the tidied table";
 
 fn main() -> ExitCode {
-    let Some(count) = count() else {
+    let Some(count) = only_count() else {
         eprintln!("{USAGE}");
         return ExitCode::from(2);
     };
@@ -27,13 +28,6 @@ fn main() -> ExitCode {
     }
 }
 
-/// The count that is the only argument.
-fn count() -> Option<u64> {
-    let mut arguments = std::env::args().skip(1);
-    let count = arguments.next()?.parse().ok()?;
-    (count > 0 && arguments.next().is_none()).then_some(count)
-}
-
 fn run(count: u64) -> Result<(), String> {
     let table = read_table()?;
     let mut list = [Move::default(); RECORDS_LEAST];
@@ -44,12 +38,6 @@ fn run(count: u64) -> Result<(), String> {
     }
     let output = bytes(tidying.rounds, &list[..tidying.moves], &tidied);
     io::stdout().write_all(&output).map_err(|error| error.to_string())
-}
-
-fn read_table() -> Result<Table, String> {
-    let mut form = Vec::new();
-    io::stdin().read_to_end(&mut form).map_err(|error| error.to_string())?;
-    form::read(&form).map_err(|refusal| format!("read refused {}", refusal.number()))
 }
 
 /// Rounds and moves, a byte each; of each move the number, highest byte first, and both places; and

@@ -3,6 +3,7 @@
 use std::fmt;
 
 use super::grid::{self, GridEvent, Way};
+use super::lookup::{self, LookupEvent};
 use super::tidying::{self, TidyingEvent};
 use crate::form::Fault;
 use crate::place::Direction::{self, Clockwise, Counterclockwise};
@@ -119,6 +120,8 @@ pub enum Event {
     Exactly8192Good,
     /// What a line on a frequency plan reached.
     Grid(Way, GridEvent),
+    /// What a lookup by node reached.
+    Lookup(LookupEvent),
     /// What a tidying reached.
     Tidying(TidyingEvent),
 }
@@ -186,9 +189,9 @@ pub const SCRIPT_EVENTS: [Event; 57] = [
     LeadingZeroGood,
 ];
 
-/// Every event that the other lines of the planning program can show, but those on frequency plans
-/// and of tidyings.
-pub const PLAN_EVENTS: [Event; 83] = [
+/// Every event that the other lines of the planning program can show, but those on frequency plans,
+/// of lookups and of tidyings.
+pub const PLAN_EVENTS: [Event; 84] = [
     Read,
     ReadBeforeRing,
     ReadReplaced,
@@ -266,6 +269,7 @@ pub const PLAN_EVENTS: [Event; 83] = [
     RefusedBeforeTable("load"),
     RefusedBeforeTable("link"),
     RefusedBeforeTable("circuits"),
+    RefusedBeforeTable("from"),
     RefusedBeforeTable("tidy"),
     RefusedOddDigits,
     RefusedCapitalDigit,
@@ -406,6 +410,7 @@ impl fmt::Display for Event {
             RefusedOver8192 => "line refused: over 8,192 bytes",
             Exactly8192Good => "good line of exactly 8,192 bytes",
             Grid(way, event) => return grid::write(f, *way, *event),
+            Lookup(event) => return lookup::write(f, *event),
             Tidying(event) => return tidying::write(f, *event),
         })
     }

@@ -3,6 +3,7 @@
 mod event;
 mod grid;
 mod load;
+mod lookup;
 mod plan;
 mod script;
 mod tidying;
@@ -10,11 +11,13 @@ mod tidying;
 use std::collections::{BTreeMap, BTreeSet};
 use std::fmt;
 
+use crate::circuit::Circuit;
 use crate::program::Program;
 use crate::table::Table;
 
 pub use event::{Event, PLAN_EVENTS, SCRIPT_EVENTS};
 pub use grid::{grid_events, GridEvent, LineFault, Off, Way};
+pub use lookup::{LookupEvent, LOOKUP_EVENTS};
 pub use tidying::{TidyingEvent, TIDYING_EVENTS};
 
 #[derive(Clone, PartialEq, Eq, Debug)]
@@ -24,8 +27,10 @@ pub struct Coverage {
     pub most_looks: u32,
     pub most_rounds: usize,
     counts: BTreeMap<Event, u64>,
-    /// The numbers of circuits with accounts that were moved on the present table.
-    moved_with_account: BTreeSet<u32>,
+    /// The numbers of live circuits that were moved on the present table.
+    moved: BTreeSet<u32>,
+    /// The nodes from which a circuit was closed on the present table.
+    closed_from: BTreeSet<u8>,
     /// Whether a tidying has joined circuits on the present table.
     is_tidied: bool,
 }
@@ -38,7 +43,8 @@ impl Coverage {
             most_looks: 0,
             most_rounds: 0,
             counts: BTreeMap::new(),
-            moved_with_account: BTreeSet::new(),
+            moved: BTreeSet::new(),
+            closed_from: BTreeSet::new(),
             is_tidied: false,
         }
     }
@@ -52,7 +58,8 @@ impl Coverage {
         match self.program {
             Program::Script => SCRIPT_EVENTS.to_vec(),
             Program::Plan => {
-                [&SCRIPT_EVENTS[..], &PLAN_EVENTS, &TIDYING_EVENTS, &grid_events()].concat()
+                [&SCRIPT_EVENTS[..], &PLAN_EVENTS, &LOOKUP_EVENTS, &TIDYING_EVENTS, &grid_events()]
+                    .concat()
             }
         }
     }
@@ -71,9 +78,10 @@ impl Coverage {
         }
     }
 
-    /// Nothing has been moved yet on the table that is in force now.
+    /// Nothing has been moved or closed yet on the table that is in force now.
     fn saw_new_table(&mut self) {
-        self.moved_with_account.clear();
+        self.moved.clear();
+        self.closed_from.clear();
         self.is_tidied = false;
     }
 
@@ -112,6 +120,11 @@ impl Before {
 
     fn had_table(&self) -> bool {
         self.table.is_some()
+    }
+
+    /// The live circuit of this number.
+    fn circuit(&self, number: u32) -> Option<Circuit> {
+        self.table.as_ref()?.circuits().find(|circuit| circuit.number == number)
     }
 
     fn shared_places(&self) -> usize {

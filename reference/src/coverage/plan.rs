@@ -3,6 +3,7 @@
 use std::collections::BTreeSet;
 
 use super::grid::sort_of_odd_grid;
+use super::lookup::sort_of_odd_lookup;
 use super::script::{narrow, sort_of_odd_account, sort_of_odd_bytes};
 use super::tidying::sort_of_odd_tidying;
 use super::Event::*;
@@ -67,6 +68,9 @@ impl Coverage {
                 self.saw_if(circuits.is_empty(), CircuitsNone);
                 self.saw_accounts_shown(table, CircuitsWithAccount, CircuitsAfterMove);
             }
+            (Answer::From { .. } | Answer::FromRefused(_), Some(table)) => {
+                self.saw_lookup(line, answer, table);
+            }
             _ => unreachable!("there is no such answer without a table"),
         }
     }
@@ -75,7 +79,7 @@ impl Coverage {
     fn saw_accounts_shown(&mut self, table: &Table, shown: Event, after_move: Event) {
         let mut with_account = table.circuits().filter(|circuit| circuit.account != 0).peekable();
         self.saw_if(with_account.peek().is_some(), shown);
-        let was_moved = |circuit: Circuit| self.moved_with_account.contains(&circuit.number);
+        let was_moved = |circuit: Circuit| self.moved.contains(&circuit.number);
         let is_after_move = with_account.any(was_moved);
         self.saw_if(is_after_move, after_move);
     }
@@ -146,6 +150,8 @@ fn sort_of_refused(line: &[u8]) -> Event {
         sort
     } else if let Some(sort) = sort_of_odd_grid(line) {
         sort
+    } else if let Some(sort) = sort_of_odd_lookup(line) {
+        sort
     } else if let Some(sort) = sort_of_odd_tidying(line) {
         sort
     } else if let Some(sort) = sort_of_odd_account(line) {
@@ -169,6 +175,7 @@ fn sort_before_table(command: &Command) -> Event {
         Command::Ask(Question::Load) => RefusedBeforeTable("load"),
         Command::Ask(Question::Link { .. }) => RefusedBeforeTable("link"),
         Command::Ask(Question::Circuits) => RefusedBeforeTable("circuits"),
+        Command::Ask(Question::From { .. }) => RefusedBeforeTable("from"),
     }
 }
 

@@ -1,6 +1,7 @@
 //! What the lines of the script program reach.
 
 use std::cmp::Ordering;
+use std::collections::BTreeSet;
 
 use super::Event::*;
 use super::{shared_places, Before, Coverage, Event};
@@ -49,8 +50,10 @@ impl Coverage {
                 self.saw_opening_after_tidying(opening.moves);
             }
             Answer::OpenRefused { refusal, .. } => self.saw(OpenRefused(refusal.number())),
-            Answer::Closed { .. } => {
+            Answer::Closed { number } => {
                 self.saw(Closed);
+                self.moved.remove(&number);
+                self.closed_from.extend(before.circuit(number).map(|closed| closed.source));
                 let left_one_alone = table.map_or(0, shared_places) < before.shared_places();
                 self.saw_if(left_one_alone, ClosedOneOfTwo);
             }
@@ -119,17 +122,16 @@ impl Coverage {
     fn saw_accounts(&mut self, table: &Table, new: Circuit, moves: &[Move]) {
         self.saw_if(new.account != 0, OpenedWithAccount);
         self.saw_if(new.account == u32::MAX, OpenedWithWidestAccount);
-        self.saw_moved_accounts(table, moves, MovedWithAccount { moves: moves.len() });
+        self.saw_moves(table, moves, MovedWithAccount { moves: moves.len() });
     }
 
-    /// Counts the event if one of the circuits moved has an account, and remembers which have.
-    pub(super) fn saw_moved_accounts(&mut self, table: &Table, moves: &[Move], event: Event) {
-        let is_moved =
-            |circuit: &Circuit| moves.iter().any(|record| record.number == circuit.number);
-        let with_account = table.circuits().filter(|circuit| circuit.account != 0);
-        let moved: Vec<u32> = with_account.filter(is_moved).map(|circuit| circuit.number).collect();
-        self.saw_if(!moved.is_empty(), event);
-        self.moved_with_account.extend(moved);
+    /// Remembers the circuits moved, and counts the event if one of them has an account.
+    pub(super) fn saw_moves(&mut self, table: &Table, moves: &[Move], with_account: Event) {
+        let moved: BTreeSet<u32> = moves.iter().map(|record| record.number).collect();
+        let has_account =
+            |circuit: Circuit| circuit.account != 0 && moved.contains(&circuit.number);
+        self.saw_if(table.circuits().any(has_account), with_account);
+        self.moved.extend(moved);
     }
 
     /// Counts a good line whose numbers have leading zeros.

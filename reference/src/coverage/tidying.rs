@@ -91,7 +91,7 @@ impl Coverage {
         self.saw_tidying_if(rounds > 1, SeveralRounds);
         self.saw_tidying_if(rounds > 0 && untidied.nodes == NODES_MOST, LargestRing);
         self.saw_tidying_if(rounds > 0 && is_full, FullRing);
-        self.saw_moved_accounts(untidied, moves, Event::Tidying(MovedWithAccount));
+        self.saw_moves(untidied, moves, Event::Tidying(MovedWithAccount));
         assert_eq!(self.saw_rounds(untidied, moves), rounds, "the records are those of the rounds");
     }
 

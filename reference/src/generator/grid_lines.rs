@@ -2,7 +2,6 @@
 
 use super::Generator;
 use crate::grid::{ANCHOR, SPACINGS, START_MOST, WAVELENGTHS};
-use crate::plan::LINE_MOST;
 use crate::random::Random;
 
 const LAST_WAVELENGTH: i64 = WAVELENGTHS as i64 - 1;
@@ -30,22 +29,9 @@ impl Generator {
             14 | 15 => return words[..self.random.between(1, 3)].join(" ").into_bytes(),
             16 | 17 => words[3] += *self.random.pick(&[" 0", " -0", " 63", " x"]),
             18 => put_odd_word(&mut words, &mut self.random),
-            _ => return self.long_or_spaced(words),
+            _ => return self.long_or_spaced(words.join(" ").into_bytes()),
         }
         words.join(" ").into_bytes()
-    }
-
-    /// A line over 8,192 bytes, or one with a space too many.
-    fn long_or_spaced(&mut self, words: Words) -> Vec<u8> {
-        let mut line = words.join(" ").into_bytes();
-        if self.random.percent(40) {
-            self.fill_with_zeros(&mut line, LINE_MOST + 1);
-            return line;
-        }
-        let mut spaces: Vec<usize> = (0..line.len()).filter(|&at| line[at] == b' ').collect();
-        spaces.extend([0, line.len()]);
-        line.insert(*self.random.pick(&spaces), b' ');
-        line
     }
 }
 

@@ -6,6 +6,7 @@ mod dear;
 mod forms;
 mod grid_lines;
 mod longest;
+mod lookup_lines;
 mod opened;
 mod plan_lines;
 mod rings;
@@ -71,7 +72,7 @@ impl Kind {
 }
 
 /// How many of a hundred lines for the planning program are of its own kinds.
-const PLAN_LINES: usize = 41;
+const PLAN_LINES: usize = 44;
 
 struct Odds {
     bad_line: usize,
@@ -116,8 +117,8 @@ pub struct Generator {
     planner: Planner,
     tide: Tide,
     lines_left_on_ring: usize,
-    /// Whether the next line tidies a table that was just read.
-    tidies_next: bool,
+    /// What follows the reading of a table that was made for it.
+    following: Option<Vec<u8>>,
     saved_forms: Vec<Vec<u8>>,
     longest: Longest,
 }
@@ -131,7 +132,7 @@ impl Generator {
             planner: Planner::new(),
             tide: Tide::default(),
             lines_left_on_ring: 0,
-            tidies_next: false,
+            following: None,
             saved_forms: Vec::new(),
             longest: Longest::default(),
         }
@@ -139,10 +140,10 @@ impl Generator {
 
     /// The next line, without its line end.
     pub fn next_line(&mut self) -> Vec<u8> {
-        let line = match self.program {
+        let line = match (self.following.take(), self.program) {
+            (Some(line), _) => line,
             _ if self.kind == Kind::Forms => self.longest.next_line(&mut self.random),
-            Program::Plan if std::mem::take(&mut self.tidies_next) => b"tidy".to_vec(),
-            Program::Plan if self.random.percent(PLAN_LINES) => self.plan_line(),
+            (None, Program::Plan) if self.random.percent(PLAN_LINES) => self.plan_line(),
             _ => self.script_line(),
         };
         let ports = self.planner.table().map(|table| table.ports);

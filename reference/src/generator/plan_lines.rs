@@ -26,18 +26,19 @@ impl Generator {
             }
         }
         match self.random.below(100) {
-            0..=27 => self.read_line(),
-            28..=38 => {
+            0..=25 => self.read_line(),
+            26..=35 => {
                 self.save_form();
                 b"write".to_vec()
             }
-            39..=47 => b"load".to_vec(),
-            48..=65 => self.link_line(),
-            66..=71 => b"circuits".to_vec(),
-            72 => self.random.pick(&["read @", "write @"]).as_bytes().to_vec(),
-            73..=84 => self.grid_line(),
-            85 => b"tidy".to_vec(),
-            86 | 87 => self.read_to_tidy(),
+            36..=43 => b"load".to_vec(),
+            44..=60 => self.link_line(),
+            61..=65 => b"circuits".to_vec(),
+            66 => self.random.pick(&["read @", "write @"]).as_bytes().to_vec(),
+            67..=77 => self.grid_line(),
+            78 => b"tidy".to_vec(),
+            79 | 80 => self.read_to_tidy(),
+            81..=88 => self.lookup_line(),
             _ => self.bad_plan_line(),
         }
     }
@@ -50,7 +51,7 @@ impl Generator {
 
     /// The form of a table with much to tidy; the line after it tidies.
     fn read_to_tidy(&mut self) -> Vec<u8> {
-        self.tidies_next = true;
+        self.following = Some(b"tidy".to_vec());
         read(&self.untidy_form())
     }
 
@@ -69,6 +70,18 @@ impl Generator {
             10 => self.fill_with_zeros(&mut line, LINE_MOST),
             _ => {}
         }
+        line
+    }
+
+    /// The line with zeros up to more than 8,192 bytes, or with a space too many.
+    pub(super) fn long_or_spaced(&mut self, mut line: Vec<u8>) -> Vec<u8> {
+        if self.random.percent(40) {
+            self.fill_with_zeros(&mut line, LINE_MOST + 1);
+            return line;
+        }
+        let mut spaces: Vec<usize> = (0..line.len()).filter(|&at| line[at] == b' ').collect();
+        spaces.extend([0, line.len()]);
+        line.insert(*self.random.pick(&spaces), b' ');
         line
     }
 
@@ -147,13 +160,14 @@ impl Generator {
 
     /// A good line with one byte changed, which may still be good.
     fn with_byte_changed(&mut self) -> Vec<u8> {
-        let mut line = match self.random.below(7) {
+        let mut line = match self.random.below(8) {
             0 => b"load".to_vec(),
             1 => b"write".to_vec(),
             2 => b"circuits".to_vec(),
             3 => b"tidy".to_vec(),
             4 => read(&self.good_form()),
             5 => grid_words(&mut self.random).join(" ").into_bytes(),
+            6 => self.lookup(),
             _ => self.link_question(),
         };
         let at = self.random.below(line.len());
@@ -164,7 +178,6 @@ impl Generator {
     /// Lines that other releases may take.
     fn not_in_force(&mut self) -> Vec<u8> {
         let lines = [
-            "from 1",
             "ends 1 1 2",
             "ports 1 1 1",
             "drain",

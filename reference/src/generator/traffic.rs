@@ -304,7 +304,7 @@ pub fn some_of<T: Copy>(items: &[T], random: &mut Random) -> Option<T> {
     }
 }
 
-fn any_node(table: &Table, random: &mut Random) -> u8 {
+pub fn any_node(table: &Table, random: &mut Random) -> u8 {
     random.between(1, usize::from(table.nodes).max(1)) as u8
 }
 

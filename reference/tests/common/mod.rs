@@ -10,7 +10,7 @@ use ring::form::{write, FORM_MOST};
 use ring::generator::{Generator, Kind};
 use ring::opening::{Move, Opening};
 use ring::place::Place;
-use ring::plan::{hexadecimal, Planner};
+use ring::plan::{hexadecimal, run, Planner};
 use ring::program::Program;
 use ring::refusal::Refusal;
 use ring::table::{Channel, Table};
@@ -136,6 +136,25 @@ pub fn read_line(table: &Table) -> String {
     let mut form = [0; FORM_MOST];
     let length = write(table, &mut form).unwrap();
     format!("read {}", hexadecimal(&form[..length]))
+}
+
+/// The answers to lines of a planner that relies on its table and one that checks it.
+pub fn answer(lines: &[&str]) -> String {
+    let script = lines.join("\n");
+    let outputs = [Planner::new(), Planner::checking_rules()].map(|mut planner| {
+        let mut output = Vec::new();
+        run(&mut planner, &mut script.as_bytes(), &mut output).unwrap();
+        String::from_utf8(output).unwrap()
+    });
+    assert_eq!(outputs[0], outputs[1]);
+    outputs[0].clone()
+}
+
+/// The answers to lines after the table was read.
+pub fn answer_on(table: &Table, lines: &[&str]) -> String {
+    let output = answer(&[&[&read_line(table)[..]], lines].concat());
+    let (_, rest) = output.split_once('\n').unwrap();
+    rest.to_string()
 }
 
 /// Runs a program to be timed, given by its path, on a form.

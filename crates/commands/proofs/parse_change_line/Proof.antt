@@ -16,8 +16,8 @@ at-end-requires c κs = search (needs, change)
 returns : tie.Need-returns
 returns c = search (needs, change)
 
-parse-grid-line-requires : tie.Need-parse-grid-line-requires
-parse-grid-line-requires c κs = search (needs, change)
+parse-lookup-line-requires : tie.Need-parse-lookup-line-requires
+parse-lookup-line-requires c κs = search (needs, change)
 
 returns-2 : tie.Need-returns-2
 returns-2 c = search (needs, change)
@@ -30,5 +30,5 @@ parse-change-line-spec =
     same-text-requires
     at-end-requires
     returns
-    parse-grid-line-requires
+    parse-lookup-line-requires
     returns-2)

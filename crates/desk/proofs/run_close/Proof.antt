@@ -6,22 +6,28 @@ use Rattle.desk.proofs.run_close.Statement.{statement}
 use Rattle.desk.proofs.run_close.Tie as tie
 
 refuse-requires : tie.Need-refuse-requires
-refuse-requires c κs = search (needs, branch, running)
+refuse-requires c κs = search needs
 
 same-length : tie.Need-same-length
-same-length c = search (needs, branch, running)
+same-length c = search needs
 
 returns : tie.Need-returns
 returns c = search (needs, branch, running)
 
-close-valid-requires : tie.Need-close-valid-requires
-close-valid-requires c κs = search (needs, branch, running)
+close-in-requires : tie.Need-close-in-requires
+close-in-requires c κs = search (needs, branch, running)
 
 put-closing-requires : tie.Need-put-closing-requires
-put-closing-requires c κs = search (needs, branch, running)
+put-closing-requires c κs = search needs
 
 same-length-2 : tie.Need-same-length-2
-same-length-2 c = search (needs, branch, running)
+same-length-2 c = search needs
+
+same-length-3 : tie.Need-same-length-3
+same-length-3 c = search needs
+
+same-length-4 : tie.Need-same-length-4
+same-length-4 c = search needs
 
 returns-2 : tie.Need-returns-2
 returns-2 c = search (needs, branch, running)
@@ -33,7 +39,9 @@ run-close-spec =
     refuse-requires
     same-length
     returns
-    close-valid-requires
+    close-in-requires
     put-closing-requires
     same-length-2
+    same-length-3
+    same-length-4
     returns-2)

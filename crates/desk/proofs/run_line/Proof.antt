@@ -2,7 +2,7 @@
 use borrow.Author.Needs.{needs}
 use Rattle.requests.proofs.Few.{lending}
 use Rattle.desk.proofs.Opens.{opens}
-use Rattle.desk.proofs.Running.{line-run}
+use Rattle.desk.proofs.Running.{line-run, refused-line}
 use Rattle.desk.proofs.run_line.Statement.{statement}
 use Rattle.desk.proofs.run_line.Tie as tie
 
@@ -42,26 +42,44 @@ refuse-requires c κs = search needs
 same-length : tie.Need-same-length
 same-length c = search needs
 
-returns : tie.Need-returns
-returns c = search (needs, line-run, opens)
-
 same-length-2 : tie.Need-same-length-2
 same-length-2 c = search needs
-
-returns-2 : tie.Need-returns-2
-returns-2 c = search (needs, line-run, opens)
 
 same-length-3 : tie.Need-same-length-3
 same-length-3 c = search needs
 
-returns-3 : tie.Need-returns-3
-returns-3 c = search (needs, line-run, opens)
+returns : tie.Need-returns
+returns c = search (needs, line-run, refused-line, opens)
 
 same-length-4 : tie.Need-same-length-4
 same-length-4 c = search needs
 
+same-length-5 : tie.Need-same-length-5
+same-length-5 c = search needs
+
+same-length-6 : tie.Need-same-length-6
+same-length-6 c = search needs
+
+returns-2 : tie.Need-returns-2
+returns-2 c = search (needs, line-run, refused-line, opens)
+
+same-length-7 : tie.Need-same-length-7
+same-length-7 c = search needs
+
+same-length-8 : tie.Need-same-length-8
+same-length-8 c = search needs
+
+same-length-9 : tie.Need-same-length-9
+same-length-9 c = search needs
+
+returns-3 : tie.Need-returns-3
+returns-3 c = search (needs, line-run, refused-line, opens)
+
+same-length-10 : tie.Need-same-length-10
+same-length-10 c = search needs
+
 returns-4 : tie.Need-returns-4
-returns-4 c = search (needs, line-run, opens)
+returns-4 c = search (needs, line-run, refused-line, opens)
 
 pub run-line-spec : {M : Type 1} → statement M
 run-line-spec =
@@ -79,10 +97,16 @@ run-line-spec =
     enum-told
     refuse-requires
     same-length
-    returns
     same-length-2
-    returns-2
     same-length-3
-    returns-3
+    returns
     same-length-4
+    same-length-5
+    same-length-6
+    returns-2
+    same-length-7
+    same-length-8
+    same-length-9
+    returns-3
+    same-length-10
     returns-4)

@@ -1,8 +1,8 @@
 -- `planner::run_line` meets its contract. Assumes nothing.
 use borrow.Author.Needs.{needs}
-use Rattle.planner.proofs.Script.{commands, not-question}
-use Rattle.planner.proofs.Lines.{read-short, run-answered}
 use Rattle.commands.proofs.Begins.{beginning}
+use Rattle.planner.proofs.Script.{commands, not-question}
+use Rattle.planner.proofs.Lines.{read-short, only-answered, run-answered}
 use Rattle.planner.proofs.run_line.Statement.{statement}
 use Rattle.planner.proofs.run_line.Tie as tie
 
@@ -57,6 +57,12 @@ enum-told c = search needs
 run-tidy-requires : tie.Need-run-tidy-requires
 run-tidy-requires c κs = search needs
 
+enum-known-command-5 : tie.Need-enum-known-command-5
+enum-known-command-5 c = search needs
+
+run-from-requires : tie.Need-run-from-requires
+run-from-requires c κs = search needs
+
 enum-told-2 : tie.Need-enum-told-2
 enum-told-2 c = search needs
 
@@ -69,44 +75,86 @@ run-question-requires c κs = search needs
 same-length : tie.Need-same-length
 same-length c = search needs
 
-returns : tie.Need-returns
-returns c = (search needs, λ k. absurd (search (needs, commands)))
-
 same-length-2 : tie.Need-same-length-2
 same-length-2 c = search needs
-
-returns-2 : tie.Need-returns-2
-returns-2 c = (search needs, λ k. absurd (search (needs, commands)))
 
 same-length-3 : tie.Need-same-length-3
 same-length-3 c = search needs
 
-returns-3 : tie.Need-returns-3
-returns-3 c = (search needs, λ k. absurd (search (needs, commands)))
+returns : tie.Need-returns
+returns c = (search needs, λ k. absurd (search (needs, commands)))
 
 same-length-4 : tie.Need-same-length-4
 same-length-4 c = search needs
 
-returns-4 : tie.Need-returns-4
-returns-4 c = (search needs, λ k. absurd (search (needs, commands)))
-
 same-length-5 : tie.Need-same-length-5
 same-length-5 c = search needs
-
-returns-5 : tie.Need-returns-5
-returns-5 c = (search needs, λ k. absurd (search (needs, commands)))
 
 same-length-6 : tie.Need-same-length-6
 same-length-6 c = search needs
 
-returns-6 : tie.Need-returns-6
-returns-6 c = (search (needs, run-answered), λ k. search needs)
+returns-2 : tie.Need-returns-2
+returns-2 c = (search needs, λ k. absurd (search (needs, commands)))
 
 same-length-7 : tie.Need-same-length-7
 same-length-7 c = search needs
 
+returns-3 : tie.Need-returns-3
+returns-3 c = (search (needs, only-answered), λ k. absurd (search (needs, commands)))
+
+same-length-8 : tie.Need-same-length-8
+same-length-8 c = search needs
+
+returns-4 : tie.Need-returns-4
+returns-4 c = (search (needs, only-answered), λ k. absurd (search (needs, commands)))
+
+same-length-9 : tie.Need-same-length-9
+same-length-9 c = search needs
+
+same-length-10 : tie.Need-same-length-10
+same-length-10 c = search needs
+
+same-length-11 : tie.Need-same-length-11
+same-length-11 c = search needs
+
+returns-5 : tie.Need-returns-5
+returns-5 c = (search needs, λ k. absurd (search (needs, commands)))
+
+same-length-12 : tie.Need-same-length-12
+same-length-12 c = search needs
+
+same-length-13 : tie.Need-same-length-13
+same-length-13 c = search needs
+
+same-length-14 : tie.Need-same-length-14
+same-length-14 c = search needs
+
+returns-6 : tie.Need-returns-6
+returns-6 c = (search (needs, only-answered), λ k. absurd (search (needs, commands)))
+
+same-length-15 : tie.Need-same-length-15
+same-length-15 c = search needs
+
+same-length-16 : tie.Need-same-length-16
+same-length-16 c = search needs
+
+same-length-17 : tie.Need-same-length-17
+same-length-17 c = search needs
+
 returns-7 : tie.Need-returns-7
-returns-7 c = (search needs, λ k. absurd (not-question _ _ (c .before .before .before .before .before .parse-command .ensures) k (c .before .before .before .before .match .keys7)))
+returns-7 c = (search (needs, run-answered), λ k. search needs)
+
+same-length-18 : tie.Need-same-length-18
+same-length-18 c = search needs
+
+same-length-19 : tie.Need-same-length-19
+same-length-19 c = search needs
+
+same-length-20 : tie.Need-same-length-20
+same-length-20 c = search needs
+
+returns-8 : tie.Need-returns-8
+returns-8 c = (search (needs, only-answered), λ k. absurd (not-question _ _ (c .before .before .before .before .before .before .before .parse-command .ensures) k (c .before .before .before .before .before .before .match .keys8)))
 
 pub run-line-spec : {M : Type 1} → statement M
 run-line-spec =
@@ -129,20 +177,36 @@ run-line-spec =
     run-wavelength-requires
     enum-told
     run-tidy-requires
+    enum-known-command-5
+    run-from-requires
     enum-told-2
     run-line-requires
     run-question-requires
     same-length
-    returns
     same-length-2
-    returns-2
     same-length-3
-    returns-3
+    returns
     same-length-4
-    returns-4
     same-length-5
-    returns-5
     same-length-6
-    returns-6
+    returns-2
     same-length-7
-    returns-7)
+    returns-3
+    same-length-8
+    returns-4
+    same-length-9
+    same-length-10
+    same-length-11
+    returns-5
+    same-length-12
+    same-length-13
+    same-length-14
+    returns-6
+    same-length-15
+    same-length-16
+    same-length-17
+    returns-7
+    same-length-18
+    same-length-19
+    same-length-20
+    returns-8)

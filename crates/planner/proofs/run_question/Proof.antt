@@ -1,7 +1,7 @@
 -- `planner::run_question` meets its contract. Assumes nothing.
 use borrow.Author.Needs.{needs}
-use Rattle.planner.proofs.Lines.{asks}
-use borrow.Author.Tests.{not-false}
+use Rattle.basis.proofs.Branch.{branch}
+use Rattle.planner.proofs.Lines.{keys-within, rests-within, asks}
 use Rattle.planner.proofs.run_question.Statement.{statement}
 use Rattle.planner.proofs.run_question.Tie as tie
 
@@ -14,8 +14,11 @@ same-length c = search needs
 returns : tie.Need-returns
 returns c = search needs
 
+table-in-requires : tie.Need-table-in-requires
+table-in-requires c κs = search (needs, branch, keys-within, rests-within)
+
 answer-requires : tie.Need-answer-requires
-answer-requires c κs = search (needs, asks, not-false)
+answer-requires c κs = search (needs, branch, asks)
 
 same-length-2 : tie.Need-same-length-2
 same-length-2 c = search needs
@@ -26,4 +29,11 @@ returns-2 c = search needs
 pub run-question-spec : {M : Type 1} → statement M
 run-question-spec =
     tie.close
-    (tie.spec refuse-requires same-length returns answer-requires same-length-2 returns-2)
+    (tie.spec
+    refuse-requires
+    same-length
+    returns
+    table-in-requires
+    answer-requires
+    same-length-2
+    returns-2)

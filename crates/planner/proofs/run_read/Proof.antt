@@ -1,46 +1,52 @@
 -- `planner::run_read` meets its contract. Assumes nothing.
 use borrow.Author.Needs.{needs}
-use Rattle.saved_forms.proofs.Forms.{forms}
-use Rattle.buffer.proofs.Appending.{one-text}
 use Rattle.basis.proofs.Arrays.{lent-counted}
+use Rattle.saved_forms.proofs.Forms.{forms}
+use Rattle.planner.proofs.Lines.{only-answered}
 use Rattle.planner.proofs.run_read.Statement.{statement}
 use Rattle.planner.proofs.run_read.Tie as tie
 
 slice-aggregate-read-word : tie.Need-slice-aggregate-read-word
-slice-aggregate-read-word c = search (needs, one-text, forms)
+slice-aggregate-read-word c = search needs
 
 read-word-requires : tie.Need-read-word-requires
-read-word-requires c κs = search (needs, one-text, forms, lent-counted)
+read-word-requires c κs = search needs
 
 enum-known-digits : tie.Need-enum-known-digits
-enum-known-digits c = search (needs, one-text, forms, lent-counted)
+enum-known-digits c = search needs
 
 array-share-prefix-form : tie.Need-array-share-prefix-form
-array-share-prefix-form c = search (needs, one-text, forms)
+array-share-prefix-form c = search (needs, forms)
 
 slice-aggregate-take-form : tie.Need-slice-aggregate-take-form
-slice-aggregate-take-form c = search (needs, one-text, forms, lent-counted)
+slice-aggregate-take-form c = search (needs, forms, lent-counted)
 
 take-form-requires : tie.Need-take-form-requires
-take-form-requires c κs = search (needs, one-text, forms)
+take-form-requires c κs = search needs
 
 enum-told : tie.Need-enum-told
-enum-told c = search (needs, one-text, forms, lent-counted)
+enum-told c = search needs
 
 refuse-requires : tie.Need-refuse-requires
-refuse-requires c κs = search (needs, one-text, forms)
+refuse-requires c κs = search needs
 
 same-length : tie.Need-same-length
-same-length c = search (needs, one-text, forms, lent-counted)
-
-returns : tie.Need-returns
-returns c = search (needs, one-text, forms)
+same-length c = search needs
 
 same-length-2 : tie.Need-same-length-2
-same-length-2 c = search (needs, one-text, forms, lent-counted)
+same-length-2 c = search needs
+
+same-length-3 : tie.Need-same-length-3
+same-length-3 c = search needs
+
+returns : tie.Need-returns
+returns c = search needs
+
+same-length-4 : tie.Need-same-length-4
+same-length-4 c = search needs
 
 returns-2 : tie.Need-returns-2
-returns-2 c = search (needs, one-text, forms)
+returns-2 c = search (needs, only-answered)
 
 pub run-read-spec : {M : Type 1} → statement M
 run-read-spec =
@@ -55,6 +61,8 @@ run-read-spec =
     enum-told
     refuse-requires
     same-length
-    returns
     same-length-2
+    same-length-3
+    returns
+    same-length-4
     returns-2)

@@ -1,49 +1,54 @@
 -- `saved_forms::run_read_file` meets its contract. Assumes nothing.
 use borrow.Author.Needs.{needs}
-use Rattle.saved_forms.proofs.Forms.{forms}
-use Rattle.buffer.proofs.Appending.{one-text}
 use Rattle.basis.proofs.Arrays.{lent-counted}
+use Rattle.saved_forms.proofs.Forms.{forms}
 use Rattle.saved_forms.proofs.run_read_file.Statement.{statement}
 use Rattle.saved_forms.proofs.run_read_file.Tie as tie
 
 slice-aggregate-read-file : tie.Need-slice-aggregate-read-file
-slice-aggregate-read-file c = search (needs, one-text, forms)
+slice-aggregate-read-file c = search needs
 
 read-file-requires : tie.Need-read-file-requires
-read-file-requires c κs = search (needs, one-text, forms)
+read-file-requires c κs = search needs
 
 enum-known-read : tie.Need-enum-known-read
-enum-known-read c = search (needs, one-text, forms, lent-counted)
+enum-known-read c = search needs
 
 array-share-prefix-form : tie.Need-array-share-prefix-form
-array-share-prefix-form c = search (needs, one-text, forms)
+array-share-prefix-form c = search (needs, forms)
 
 slice-aggregate-take-form : tie.Need-slice-aggregate-take-form
-slice-aggregate-take-form c = search (needs, one-text, forms, lent-counted)
+slice-aggregate-take-form c = search (needs, forms, lent-counted)
 
 take-form-requires : tie.Need-take-form-requires
-take-form-requires c κs = search (needs, one-text, forms)
+take-form-requires c κs = search needs
 
 enum-told : tie.Need-enum-told
-enum-told c = search (needs, one-text, forms, lent-counted)
+enum-told c = search needs
 
 slice-aggregate-put-text : tie.Need-slice-aggregate-put-text
-slice-aggregate-put-text c = search (needs, one-text, forms)
+slice-aggregate-put-text c = search needs
 
 put-text-requires : tie.Need-put-text-requires
-put-text-requires c κs = search (needs, one-text, forms, lent-counted)
+put-text-requires c κs = search needs
 
 same-length : tie.Need-same-length
-same-length c = search (needs, one-text, forms, lent-counted)
-
-returns : tie.Need-returns
-returns c = search (needs, one-text, forms)
+same-length c = search needs
 
 same-length-2 : tie.Need-same-length-2
-same-length-2 c = search (needs, one-text, forms, lent-counted)
+same-length-2 c = search needs
+
+same-length-3 : tie.Need-same-length-3
+same-length-3 c = search needs
+
+returns : tie.Need-returns
+returns c = search needs
+
+same-length-4 : tie.Need-same-length-4
+same-length-4 c = search needs
 
 returns-2 : tie.Need-returns-2
-returns-2 c = search (needs, one-text, forms, lent-counted)
+returns-2 c = search needs
 
 pub run-read-file-spec : {M : Type 1} → statement M
 run-read-file-spec =
@@ -59,6 +64,8 @@ run-read-file-spec =
     slice-aggregate-put-text
     put-text-requires
     same-length
-    returns
     same-length-2
+    same-length-3
+    returns
+    same-length-4
     returns-2)

@@ -1,36 +1,46 @@
 -- `saved_forms::take_form` meets its contract. Assumes nothing.
 use borrow.Author.Needs.{needs}
 use Rattle.buffer.proofs.Appending.{one-text}
-use Rattle.saved_forms.proofs.Forms.{accepted}
+use Rattle.form.proofs.Laws.{accepted-meets}
+use Rattle.desk.proofs.Running.{keeps-held}
 use Rattle.saved_forms.proofs.take_form.Statement.{statement}
 use Rattle.saved_forms.proofs.take_form.Tie as tie
 
 read-requires : tie.Need-read-requires
-read-requires c κs = search (needs, one-text)
+read-requires c κs = search needs
 
 wavelengths-requires : tie.Need-wavelengths-requires
-wavelengths-requires c κs = search (needs, one-text)
+wavelengths-requires c κs = search needs
 
 put-read-requires : tie.Need-put-read-requires
-put-read-requires c κs = search (needs, one-text, accepted)
+put-read-requires c κs = search needs
 
 enum-told : tie.Need-enum-told
-enum-told c = search (needs, one-text, accepted)
+enum-told c = search needs
+
+hold-requires : tie.Need-hold-requires
+hold-requires c κs = search (needs, accepted-meets)
 
 enum-told-2 : tie.Need-enum-told-2
-enum-told-2 c = search (needs, one-text, accepted)
+enum-told-2 c = search needs
 
 same-length : tie.Need-same-length
-same-length c = search (needs, one-text, accepted)
-
-returns : tie.Need-returns
-returns c = search (needs, one-text, accepted)
+same-length c = search needs
 
 same-length-2 : tie.Need-same-length-2
-same-length-2 c = search (needs, one-text, accepted)
+same-length-2 c = search needs
+
+same-length-3 : tie.Need-same-length-3
+same-length-3 c = search needs
+
+returns : tie.Need-returns
+returns c = search (needs, one-text, keeps-held)
+
+same-length-4 : tie.Need-same-length-4
+same-length-4 c = search needs
 
 returns-2 : tie.Need-returns-2
-returns-2 c = search (needs, one-text, accepted)
+returns-2 c = search needs
 
 pub take-form-spec : {M : Type 1} → statement M
 take-form-spec =
@@ -40,8 +50,11 @@ take-form-spec =
     wavelengths-requires
     put-read-requires
     enum-told
+    hold-requires
     enum-told-2
     same-length
-    returns
     same-length-2
+    same-length-3
+    returns
+    same-length-4
     returns-2)

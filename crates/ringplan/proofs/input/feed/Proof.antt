@@ -8,10 +8,10 @@ use Rattle.ringplan.proofs.input.feed.Statement.{statement}
 use Rattle.ringplan.proofs.input.feed.Tie as tie
 
 abbrev Inv-loop : tie.InvT-loop
-Inv-loop line₀ chunk out₀ desk₀ count₀ at₀ i₀ line out desk count at i = Feeding desk count line₀ line out₀ out at
+Inv-loop keys₀ rests₀ line₀ chunk out₀ desk₀ count₀ at₀ i₀ keys rests line out desk count at i = Feeding desk count keys₀ keys rests₀ rests line₀ line out₀ out at
 
 abbrev μ-loop : tie.MeasureT-loop
-μ-loop line₀ chunk out₀ desk₀ count₀ at₀ i₀ line out desk count at i = length chunk - i
+μ-loop keys₀ rests₀ line₀ chunk out₀ desk₀ count₀ at₀ i₀ keys rests line out desk count at i = length chunk - i
 
 loop-holds : tie.Need-loop-holds Inv-loop μ-loop
 loop-holds c = search (needs, feeding)
@@ -47,10 +47,16 @@ enum-told : tie.Need-enum-told Inv-loop μ-loop
 enum-told c = search (needs, feeding, lent-counted)
 
 same-length : tie.Need-same-length Inv-loop μ-loop
-same-length c = search (needs, feeding, lent-counted)
+same-length c = search (needs, feeding)
 
 same-length-2 : tie.Need-same-length-2 Inv-loop μ-loop
-same-length-2 c = search (needs, feeding, lent-counted)
+same-length-2 c = search (needs, feeding)
+
+same-length-3 : tie.Need-same-length-3 Inv-loop μ-loop
+same-length-3 c = search (needs, feeding)
+
+same-length-4 : tie.Need-same-length-4 Inv-loop μ-loop
+same-length-4 c = search (needs, feeding)
 
 returns : tie.Need-returns Inv-loop μ-loop
 returns c = search (needs, feeding)
@@ -82,11 +88,17 @@ slice-aggregate-write-all c = search (needs, feeding, lent-counted)
 write-all-requires : tie.Need-write-all-requires Inv-loop μ-loop
 write-all-requires c κs = search (needs, feeding)
 
-same-length-3 : tie.Need-same-length-3 Inv-loop μ-loop
-same-length-3 c = search (needs, feeding, lent-counted)
+same-length-5 : tie.Need-same-length-5 Inv-loop μ-loop
+same-length-5 c = search (needs, feeding)
 
-same-length-4 : tie.Need-same-length-4 Inv-loop μ-loop
-same-length-4 c = search (needs, feeding, lent-counted)
+same-length-6 : tie.Need-same-length-6 Inv-loop μ-loop
+same-length-6 c = search (needs, feeding)
+
+same-length-7 : tie.Need-same-length-7 Inv-loop μ-loop
+same-length-7 c = search (needs, feeding)
+
+same-length-8 : tie.Need-same-length-8 Inv-loop μ-loop
+same-length-8 c = search (needs, feeding)
 
 returns-2 : tie.Need-returns-2 Inv-loop μ-loop
 returns-2 c = search (needs, feeding)
@@ -110,6 +122,8 @@ feed-spec =
     enum-told
     same-length
     same-length-2
+    same-length-3
+    same-length-4
     returns
     slice-write-line
     add-count
@@ -120,6 +134,8 @@ feed-spec =
     slice-reshare-prefix-write-all
     slice-aggregate-write-all
     write-all-requires
-    same-length-3
-    same-length-4
+    same-length-5
+    same-length-6
+    same-length-7
+    same-length-8
     returns-2)

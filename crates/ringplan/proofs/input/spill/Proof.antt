@@ -12,10 +12,10 @@ has-room-requires : tie.Need-has-room-requires
 has-room-requires c κs = search needs
 
 returns : tie.Need-returns
-returns c = search (needs, lent-counted, room-left)
+returns c = search (needs, room-left)
 
 slice-aggregate-write-all : tie.Need-slice-aggregate-write-all
-slice-aggregate-write-all c = search (needs, lent-counted, room-left)
+slice-aggregate-write-all c = search (needs, lent-counted)
 
 write-all-requires : tie.Need-write-all-requires
 write-all-requires c κs = search needs

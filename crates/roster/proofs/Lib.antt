@@ -1,0 +1,8 @@
+-- The laws of the roster.
+pub mod Filing
+pub mod Standings
+pub mod Back
+pub mod Arranged
+pub mod Listing
+pub mod Building
+pub mod Holding

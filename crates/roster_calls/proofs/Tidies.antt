@@ -1,0 +1,147 @@
+-- A tidying of a roster is that of its table. Assumes nothing.
+use Prim.Native.Nat.{ℕ, _≤_, _<_}
+use mathlib.Core.Path.{_≡_, refl, sym, ap, subst, _∙_}
+use mathlib.Core.Bool.{Bool, true, false, not}
+use mathlib.Core.List.{List, []}
+use native.Mathlib.Decide.{decLt}
+use native.Mathlib.Omega.{arith}
+use lib.ListN.{length}
+use Rattle.basis.specs.Choice.{pick, bit}
+use Rattle.limits.specs.Limits.{mostCircuits}
+use Rattle.moves.specs.MoveList.{listOf, recorded, writtenAll}
+use Rattle.moves.specs.declared.Move.{Move}
+use Rattle.moves.specs.declared.MoveList.{MoveList}
+use Rattle.moves.proofs.WrittenAll.{written-all-none}
+use Rattle.refusals.specs.declared.Refusal.the-variants.{BrokenRule}
+use Rattle.refusals.specs.Answer.{answerBy}
+use Rattle.ring.specs.Table.{meetsRules}
+use Rattle.ring.specs.Tidying.{decideTidyOf, tidyOf, tidyLentAfter}
+use Rattle.ring.specs.Answer.{tidyingAnswer}
+use Rattle.ring.specs.Numbers.{tidyValues}
+use Rattle.ring.specs.Tidies.{TidiesBy, TidiesLent}
+use Rattle.ring.specs.declared.RingTable.{RingTable}
+use Rattle.ring.specs.declared.TidyDecision.{TidyDecision}
+use Rattle.ring.specs.declared.Tidying.the-variants.{Refused as notTidied}
+use Rattle.ring.proofs.Rounds.{tidy-numbers, tidy-rules, tidies-by, tidies-lent}
+use Rattle.entries.specs.Entry.{inFields}
+use Rattle.roster.specs.declared.Roster.{Roster}
+use Rattle.roster.specs.Held.{Typed}
+use Rattle.roster.specs.Roster.{arranged, tableOf, stands}
+use Rattle.roster.proofs.Arranged.{typed-weight, weight-typed, table-typed, there-and-back, stands-rules}
+use Rattle.roster.proofs.Building.{stands-most}
+use Rattle.roster_calls.specs.Calls.{TidyDecided, tidyingArranged, decideTidyRoster, tidyRoster, tidyRosterLent, tidyRosterReasons, tidiedTable}
+use Rattle.roster_calls.proofs.Standing.{tested, untested}
+
+-- the answer in numbers
+abbrev pub Numbered : Roster → ℕ → TidyDecided → Type 0
+Numbered r n d = tidyingAnswer (d .tidied .answer) ≡ answerBy (tidyRosterReasons r n) (tidyValues (tableOf r))
+
+-- and what a tidying does
+abbrev pub Keeps : Roster → ℕ → TidyDecided → Type 0
+Keeps r n d = TidiesBy (tableOf r) n (tidiedTable (d .tidied)) (recorded (d .moves))
+
+module _ (r : Roster) (n : ℕ) where
+  -- of a roster that stands it is the old tidying, arranged
+  pub tidy-stands : stands r ≡ true → decideTidyRoster r n ≡ tidyingArranged (decideTidyOf (tableOf r) n)
+  unfolding decideTidyRoster
+  tidy-stands s = rw s
+
+  -- for every roster
+  pub roster-numbers : Numbered r n (decideTidyRoster r n)
+  unfolding decideTidyRoster
+  roster-numbers = go (stands r) refl
+    where
+      go : (b : Bool) → stands r ≡ b → Numbered r n (decideTidyRoster r n)
+      go true s = rw s (rw (stands-rules r s) at (tidy-numbers (tableOf r) n))
+      go false s = rw s
+
+  -- a roster that stands has no more entries than there is room for
+  pub tidy-most : stands r ≡ true → r .heading .count ≤ mostCircuits
+  tidy-most s = stands-most r s
+
+  module _ (s : stands r ≡ true) (t : RingTable) (same : t ≡ tableOf r) where
+    -- its table meets the rules, and so does the table after it
+    pub tidy-meets : meetsRules t ≡ true
+    tidy-meets = rw same (stands-rules r s)
+
+    module _ (d : TidyDecision) (is : d ≡ decideTidyOf t n) where
+      pub tidied-meets : meetsRules (d .tidied .table) ≡ true
+      tidied-meets = rw (is, same) (tidy-rules (tableOf r) (stands-rules r s) n)
+
+      -- the table arranged after it
+      module _ (u : Roster) (e : u ≡ arranged (d .tidied .table)) (back : (stands u ≡ true) × (tableOf u ≡ d .tidied .table)) where
+        abbrev left : TidyDecided
+        left = record { tidied = record { roster = u; answer = d .tidied .answer }; moves = d .moves }
+
+        is-table : d ≡ decideTidyOf (tableOf r) n
+        is-table = is ∙ ap (λ (x : RingTable). decideTidyOf x n) same
+
+        left-is : left ≡ decideTidyRoster r n
+        left-is =
+            (λ i. record { tidied = record { roster = e i; answer = d .tidied .answer }; moves = d .moves }) ∙ ap tidyingArranged is-table
+            ∙ sym (tidy-stands s)
+
+        keeps : Keeps r n left
+        keeps = rw (back .1, is-table) (tidies-by (tableOf r) (stands-rules r s) n)
+
+        pub tidies-valid : (left ≡ decideTidyRoster r n) × (Numbered r n left × ((stands u ≡ true) × Keeps r n left))
+        tidies-valid = (left-is, (subst (Numbered r n) (sym left-is) roster-numbers, (back .0, keeps)))
+
+  -- a roster that does not stand is met by 22
+  module _ (fails : stands r ≡ false) (ms : MoveList) (e : ms ≡ listOf []) where
+    abbrev kept : TidyDecided
+    kept = record { tidied = record { roster = r; answer = notTidied BrokenRule }; moves = ms }
+
+    kept-is : kept ≡ decideTidyRoster r n
+    unfolding decideTidyRoster
+    kept-is = rw (fails, e)
+
+    pub tidies-refused : (kept ≡ decideTidyRoster r n) × (Numbered r n kept × (stands r ≡ true → Keeps r n kept))
+    tidies-refused = (kept-is, (subst (Numbered r n) (sym kept-is) roster-numbers, λ s. absurd (omega (arith, ap bit (sym fails ∙ s)))))
+
+-- the circuits after it are within their fields, as those before it are
+tidied-typed : (r : Roster) (n : ℕ) → stands r ≡ true → Typed (decideTidyOf (tableOf r) n .tidied .table .channels)
+tidied-typed r n s = go (decLt n 128)
+  where
+    t : RingTable
+    t = tableOf r
+
+    by : TidiesBy t n (decideTidyOf t n .tidied) (recorded (decideTidyOf t n .moves))
+    by = tidies-by t (stands-rules r s) n
+
+    go : Dec (n < 128) → Typed (decideTidyOf t n .tidied .table .channels)
+    go (yes l) = rw (by .refused l .1) (table-typed r)
+    go (no h) =
+        typed-weight (decideTidyOf t n .tidied .table .channels)
+        (by .done (omega arith) .3 .exact (λ x. bit (not (inFields x))) ∙ weight-typed (t .channels) (table-typed r))
+
+-- with a lent list: it is afterwards as the old tidying leaves it
+module _ (r : Roster) (lent lent′ : List Move) (f : lent′ ≡ writtenAll lent (decideTidyRoster r (length lent) .moves)) where
+  pub lent-is : lent′ ≡ tidyRosterLent r lent
+  unfolding decideTidyRoster
+  lent-is = f ∙ go (stands r)
+    where
+      go : (b : Bool)
+          → writtenAll lent (pick b (tidyingArranged (decideTidyOf (tableOf r) (length lent))) (record { tidied = record { roster = r; answer = notTidied BrokenRule }; moves = listOf [] }) .moves)
+          ≡ pick b (tidyLentAfter (tableOf r) lent) lent
+      go true = refl
+      go false = written-all-none lent
+
+  -- and what a tidying does holds of it
+  pub lent-tidies : stands r ≡ true → TidiesLent (tableOf r) lent (tidiedTable (tidyRoster r lent)) lent′
+  lent-tidies s =
+      tidies-lent (tableOf r) lent (tidiedTable (tidyRoster r lent)) lent′ tidied (f ∙ ap (λ (d : TidyDecided). writtenAll lent (d .moves)) is) (stands-rules r s)
+    where
+      is : decideTidyRoster r (length lent) ≡ tidyingArranged (decideTidyOf (tableOf r) (length lent))
+      is = tidy-stands r (length lent) s
+
+      back : tableOf (tidyRoster r lent .roster) ≡ decideTidyOf (tableOf r) (length lent) .tidied .table
+      back =
+          ap (λ (d : TidyDecided). tableOf (d .tidied .roster)) is
+          ∙ there-and-back (decideTidyOf (tableOf r) (length lent) .tidied .table) (tidy-rules (tableOf r) (stands-rules r s) (length lent)) (tidied-typed r (length lent) s)
+
+      tidied : tidiedTable (tidyRoster r lent) ≡ tidyOf (tableOf r) lent
+      tidied = λ i. record { table = back i; answer = ap (λ (d : TidyDecided). d .tidied .answer) is i }
+
+-- for `search (needs, tidying)`
+pub ruleset tidying = (tidy-most, tidy-meets, tidied-meets, tested, untested)

@@ -1,0 +1,4 @@
+-- The laws.
+pub mod Moved
+pub mod Replaced
+pub mod Calls

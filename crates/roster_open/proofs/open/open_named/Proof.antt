@@ -1,0 +1,72 @@
+-- `roster_open::open_named` meets its contract. Assumes nothing.
+use borrow.Author.Needs.{needs}
+use Rattle.roster_open.proofs.Calls.{named-allowed, named-served, named-refused}
+use Rattle.roster_open.proofs.open.open_named.Statement.{statement}
+use Rattle.roster_open.proofs.open.open_named.Tie as tie
+
+place-limit-requires : tie.Need-place-limit-requires
+place-limit-requires c κs = search needs
+
+survey-entries-requires : tie.Need-survey-entries-requires
+survey-entries-requires c κs = search needs
+
+judge-requires : tie.Need-judge-requires
+judge-requires c κs = search needs
+
+enum-told : tie.Need-enum-told
+enum-told c = search needs
+
+serve-requires : tie.Need-serve-requires
+serve-requires c κs =
+    let start = c .before .before .before .before .before .before .before .before .before .before .before .before .before .before .pre in (
+      start .0,
+      named-allowed _ _ _ (start .0) _ _ (c .before .before .before .before .judge .ensures) (start .1) (c .before .before .enum-told .given .1),
+      c .before .before .before .before .before .before .before .before .before .before .place-limit .ensures,
+      c .before .before .before .before .before .before .before .survey-entries .ensures,
+    )
+
+enum-known-verdict : tie.Need-enum-known-verdict
+enum-known-verdict c = search needs
+
+refuse-requires : tie.Need-refuse-requires
+refuse-requires c κs = search needs
+
+same-length : tie.Need-same-length
+same-length c = search needs
+
+same-length-2 : tie.Need-same-length-2
+same-length-2 c = search needs
+
+returns : tie.Need-returns
+returns c =
+    let start = c .before .before .before .before .before .before .before .before .before .before .before .before .before .before .before .before .before .before .before .pre in
+    named-served _ _ _ (start .0) _ _ (c .before .before .before .before .before .before .before .before .before .judge .ensures) _ _ _ (c .before .before .before .before .before .before .before .enum-told .given .1) (c .before .before .before .before .serve .ensures)
+
+same-length-3 : tie.Need-same-length-3
+same-length-3 c = search needs
+
+same-length-4 : tie.Need-same-length-4
+same-length-4 c = search needs
+
+returns-2 : tie.Need-returns-2
+returns-2 c =
+    let start = c .before .before .before .before .before .before .before .before .before .before .before .before .before .before .pre in
+    named-refused _ _ _ (start .0) _ _ (c .before .before .before .before .judge .ensures) _ _ (search needs) (c .refuse .ensures)
+
+pub open-named-spec : {M : Type 1} → statement M
+open-named-spec =
+    tie.close
+    (tie.spec
+    place-limit-requires
+    survey-entries-requires
+    judge-requires
+    enum-told
+    serve-requires
+    enum-known-verdict
+    refuse-requires
+    same-length
+    same-length-2
+    returns
+    same-length-3
+    same-length-4
+    returns-2)

@@ -1,0 +1,2 @@
+-- What a pass over the entries of a roster sees.
+pub mod Pass

@@ -1,0 +1,2 @@
+-- What is printed of a node's row.
+pub mod Lines

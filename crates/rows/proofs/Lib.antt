@@ -1,0 +1,4 @@
+-- The laws of rows.
+pub mod Found
+pub mod Rows
+pub mod Held

@@ -1,0 +1,2 @@
+-- The row of a node in a roster.
+pub mod Row
