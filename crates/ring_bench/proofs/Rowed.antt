@@ -4,8 +4,8 @@ use mathlib.Core.Path.{_≡_, refl, ap, _∙_}
 use mathlib.Core.List.{List}
 use native.Mathlib.Numerals.{add-one}
 use native.Mathlib.Omega.{arith}
-use lib.ListN.{length, take, drop, getD, length-drop, drop-of-length-le}
-use lib.Seq.{drop-cons, length-take-le}
+use lib.ListN.{length, take, drop, getD, drop-of-length-le}
+use lib.Seq.{drop-cons}
 use mir.Syntax.{w64}
 use mir.Val.{Fits}
 use Rattle.channels.specs.Channels.{Channels}
@@ -18,7 +18,7 @@ use Rattle.roster.specs.declared.Heading.{Heading}
 use Rattle.roster.proofs.Holding.{held-table, held-again}
 use Rattle.rows.specs.Row.{rowIn, rowOf}
 use Rattle.rows.specs.declared.Row.{Row}
-use Rattle.rows.proofs.Held.{held-room, held-order, held-keyed, held-rested, held-row}
+use Rattle.rows.proofs.Held.{held-room, held-order, held-keyed, held-row, rests-same}
 use Rattle.ring_bench.specs.Lookups.{withEntry, withAll, withRows, lookups}
 
 -- ---- one entry
@@ -100,17 +100,6 @@ module _ (N : ℕ) (ks : List ℕ) (t : Channels) (keys rests : List ℕ) (count
   -- the start of a row in bytes
   pub row-scaled : Fits w64 (r .start * 8)
   row-scaled = record { fits = omega (arith, held-order N ks t keys rests count h node r e, held-keyed N ks t keys rests count h node r e, held-room N ks t keys rests count h) }
-
-  -- how many keys and rests it has
-  keys-long : length (take (r .end - r .start) (drop (r .start) keys)) ≡ r .end - r .start
-  keys-long = length-take-le _ _ (omega (arith, held-order N ks t keys rests count h node r e, held-keyed N ks t keys rests count h node r e, length-drop (r .start) keys))
-
-  rests-long : length (take (r .end - r .start) (drop (r .start) rests)) ≡ r .end - r .start
-  rests-long = length-take-le _ _ (omega (arith, held-order N ks t keys rests count h node r e, held-rested N ks t keys rests count h node r e, length-drop (r .start) rests))
-
-  -- as many rests as keys
-  pub rests-same : length (take (r .end - r .start) (drop (r .start) rests)) ≡ length (take (r .end - r .start) (drop (r .start) keys))
-  rests-same = omega (arith, keys-long, rests-long)
 
   -- the entries of the row are those of the node
   pub row-summed : (last s : ℕ) → s ≡ withAll last (entriesIn (take (r .end - r .start) (drop (r .start) keys)) (take (r .end - r .start) (drop (r .start) rests)))

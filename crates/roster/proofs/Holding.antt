@@ -6,7 +6,7 @@ use mathlib.Core.List.{List, [], _∷_, _++_}
 use native.Mathlib.Numerals.{add-one}
 use native.Mathlib.Omega.{arith}
 use lib.ListN.{length, take, set, replicate, length-set}
-use lib.Seq.{take-suc-set}
+use lib.Seq.{take-suc-set, take-all}
 use Rattle.limits.specs.Limits.{mostCircuits}
 use Rattle.channels.specs.Channels.{Channels}
 use Rattle.ring.specs.Table.{meetsRules}
@@ -39,13 +39,7 @@ clear-next l₀ l i h k = record {
 }
 
 pub clear-end : (l₀ l : List ℕ) (i : ℕ) → Cleared l₀ l i → length l ≤ i → l ≡ replicate (length l₀) 0
-clear-end l₀ l i h k = let e : i ≡ length l₀ = omega (arith, h .long, h .within) in sym (all l i k) ∙ h .zeros ∙ ap (λ n. replicate n 0) e
-  where
-    all : (l : List ℕ) (i : ℕ) → length l ≤ i → take i l ≡ l
-    all [] zero k = refl
-    all [] (suc i) k = refl
-    all (x ∷ l) zero k = absurd (omega arith)
-    all (x ∷ l) (suc i) k = ap (λ (r : List ℕ). x ∷ r) (all l i (omega arith))
+clear-end l₀ l i h k = let e : i ≡ length l₀ = omega (arith, h .long, h .within) in sym (take-all i l k) ∙ h .zeros ∙ ap (λ n. replicate n 0) e
 
 pub clear-long : (l₀ l : List ℕ) (i : ℕ) → Cleared l₀ l i → length l ≡ length l₀
 clear-long l₀ l i h = h .long

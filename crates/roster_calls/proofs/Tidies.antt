@@ -1,5 +1,5 @@
 -- A tidying of a roster is that of its table. Assumes nothing.
-use Prim.Native.Nat.{ℕ, _≤_, _<_}
+use Prim.Native.Nat.{ℕ, _<_}
 use mathlib.Core.Path.{_≡_, refl, sym, ap, subst, _∙_}
 use mathlib.Core.Bool.{Bool, true, false, not}
 use mathlib.Core.List.{List, []}
@@ -7,7 +7,6 @@ use native.Mathlib.Decide.{decLt}
 use native.Mathlib.Omega.{arith}
 use lib.ListN.{length}
 use Rattle.basis.specs.Choice.{pick, bit}
-use Rattle.limits.specs.Limits.{mostCircuits}
 use Rattle.moves.specs.MoveList.{listOf, recorded, writtenAll}
 use Rattle.moves.specs.declared.Move.{Move}
 use Rattle.moves.specs.declared.MoveList.{MoveList}
@@ -54,10 +53,6 @@ module _ (r : Roster) (n : ℕ) where
       go : (b : Bool) → stands r ≡ b → Numbered r n (decideTidyRoster r n)
       go true s = rw s (rw (stands-rules r s) at (tidy-numbers (tableOf r) n))
       go false s = rw s
-
-  -- a roster that stands has no more entries than there is room for
-  pub tidy-most : stands r ≡ true → r .heading .count ≤ mostCircuits
-  tidy-most s = stands-most r s
 
   module _ (s : stands r ≡ true) (t : RingTable) (same : t ≡ tableOf r) where
     -- its table meets the rules, and so does the table after it
@@ -144,4 +139,4 @@ module _ (r : Roster) (lent lent′ : List Move) (f : lent′ ≡ writtenAll len
       tidied = λ i. record { table = back i; answer = ap (λ (d : TidyDecided). d .tidied .answer) is i }
 
 -- for `search (needs, tidying)`
-pub ruleset tidying = (tidy-most, tidy-meets, tidied-meets, tested, untested)
+pub ruleset tidying = (stands-most, tidy-meets, tidied-meets, tested, untested)

@@ -1,12 +1,11 @@
 -- Reading, writing and the load report of a roster are those of the table that it is of. Assumes nothing.
-use Prim.Native.Nat.{ℕ, _≤_}
+use Prim.Native.Nat.{ℕ}
 use mathlib.Core.Path.{_≡_, refl, sym, ap, _∙_}
 use mathlib.Core.Bool.{Bool, true, false, not}
 use mathlib.Core.List.{List, [], _∷_}
 use native.Mathlib.Omega.{arith}
 use lib.ListN.{length}
 use borrow.Author.Tests.{not-true, not-false}
-use Rattle.limits.specs.Limits.{mostCircuits}
 use Rattle.refusals.specs.Answer.{verdictAnswer, answerBy}
 use Rattle.refusals.specs.declared.Refusal.{Refusal}
 use Rattle.refusals.specs.declared.Refusal.the-variants.{BrokenRule}
@@ -60,10 +59,6 @@ module _ (s : List ℕ) (a : Answered) (is : a ≡ readOf s) (numbers : verdictA
 -- ---- a roster that stands, and its table
 
 module _ (r : Roster) where
-  -- its entries have room, and its table meets the rules
-  pub table-room : stands r ≡ true → r .heading .count ≤ mostCircuits
-  table-room s = stands-most r s
-
   pub table-meets : (t : RingTable) → stands r ≡ true → t ≡ tableOf r → meetsRules t ≡ true
   table-meets t s e = rw e (stands-rules r s)
 
@@ -114,4 +109,4 @@ module _ (r : Roster) (l : List ℕ) where
   report-refused f = rw f (refl, (refl, refl))
 
 -- for `search (needs, forming)`
-pub ruleset forming = (accepted-meets, table-room, table-meets, tested, untested)
+pub ruleset forming = (accepted-meets, stands-most, table-meets, tested, untested)

@@ -9,18 +9,13 @@ use borrow.Author.Tests.{lt-ltb, le-ltb, not-true, not-false}
 use Rattle.lightpath.specs.Place.{directionOf}
 use Rattle.lightpath.specs.Circuit.{blankCircuit, adjacent, canShare}
 use Rattle.lightpath.specs.declared.Direction.{Direction}
-use Rattle.lightpath.specs.declared.Direction.the-variants.{Clockwise as clockwise, Counterclockwise as counterclockwise}
 use Rattle.lightpath.specs.declared.Circuit.{Circuit}
+use Rattle.lightpath.proofs.Share.{apart-never}
 use Rattle.lit_words.specs.Lit.{litBit}
 use Rattle.lit_words.specs.declared.Lit.{Lit}
 use Rattle.channels.specs.declared.Standing.{Standing}
 use Rattle.entries.specs.Entry.{entryOf}
 use Rattle.roster_survey.specs.Pass.{Nearest, placeIn, joinable, nearer, Reached, standingIn}
-
--- two that are not adjacent cannot share
-share-apart : (N : ℕ) (d : Direction) (a b : Circuit) → adjacent a b ≡ false → canShare N d a b ≡ false
-share-apart N clockwise a b e = rw e
-share-apart N counterclockwise a b e = rw e
 
 module _ (N : ℕ) (c : Circuit) (shared : Lit) (key rest : ℕ) where
   pub join-shared : (r : Bool) → r ≡ litBit shared (placeIn rest) → r ≡ true → false ≡ joinable N c shared key rest
@@ -37,7 +32,7 @@ module _ (N : ℕ) (c : Circuit) (shared : Lit) (key rest : ℕ) where
     pub nearer-apart : (r : Bool) → r ≡ adjacent (entryOf key rest .circuit) c → not r ≡ true → v ≡ nearer N c shared key rest i v
     unfolding joinable
     nearer-apart r e h =
-        let none = share-apart N (directionOf (placeIn rest)) (entryOf key rest .circuit) c (sym e ∙ not-true r h) in
+        let none = apart-never N (directionOf (placeIn rest)) (entryOf key rest .circuit) c (sym e ∙ not-true r h) in
         rw (none, and-false (not (litBit shared (placeIn rest))), and-false (ltb (placeIn rest) (v .place)))
 
     pub nearer-above : v .place ≤ placeIn rest → v ≡ nearer N c shared key rest i v

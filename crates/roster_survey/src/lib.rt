@@ -6,7 +6,6 @@ ghost use Prim.Native.Nat.{_<_};
 ghost use lib.ListN.{take};
 ghost use Rattle.limits.specs.Limits.{placeCount};
 ghost use Rattle.lightpath.specs.Circuit.{adjacent};
-ghost use Rattle.ports.specs.Ports.{limitOf};
 ghost use Rattle.survey.specs.Survey.{surveyOf};
 ghost use Rattle.entries.specs.Entry.{entryOf};
 ghost use Rattle.roster.specs.Roster.{placesOf};
@@ -208,7 +207,7 @@ pub fn survey_entries(
     rests: &[u64],
     circuit: Circuit,
 ) -> Survey
-    requires { ⌜ (limit ≡ limitOf (heading .ports)) × Holds (heading .nodes) (heading .ports) (placesOf (now keys) (now rests) (heading .count)) (now keys) (now rests) (heading .count) ⌝ }
+    requires { ⌜ Holds (heading .nodes) (heading .ports) (placesOf (now keys) (now rests) (heading .count)) (now keys) (now rests) (heading .count) ⌝ }
     ensures { λ r. ⌜ r ≡ surveyOf (heading .nodes) limit (placesOf (now (keys .entry)) (now (rests .entry)) (heading .count)) circuit ⌝ }
 {
     let count = heading.count as usize;

@@ -4,8 +4,7 @@ use mathlib.Core.Path.{_≡_, refl}
 use mathlib.Core.Bool.{Bool, true, false}
 use mathlib.Core.List.{List, [], _∷_}
 use native.Mathlib.Omega.{arith}
-use lib.ListN.{length, take, drop, length-drop}
-use lib.Seq.{length-take-le}
+use lib.ListN.{length, take, drop}
 use mir.Syntax.{w64}
 use mir.Val.{Fits}
 use borrow.Author.Tests.{not-true, not-false}
@@ -22,7 +21,7 @@ use Rattle.roster.specs.Roster.{entriesIn}
 use Rattle.roster.specs.Held.{Holds}
 use Rattle.rows.specs.Row.{rowIn}
 use Rattle.rows.specs.declared.Row.{Row}
-use Rattle.rows.proofs.Held.{sends-most, held-room, held-order, held-keyed, held-rested, held-sends, held-row}
+use Rattle.rows.proofs.Held.{sends-most, held-room, held-order, held-keyed, keys-long, rests-same, held-sends, held-row}
 use Rattle.buffer.specs.Put.{Printed}
 use Rattle.buffer.proofs.Put.{put-put}
 use Rattle.text.specs.Bytes.{bytes}
@@ -71,19 +70,10 @@ module _ (N : ℕ) (ks : List ℕ) (t : Channels) (keys rests : List ℕ) (count
   pub row-scaled : Fits w64 (r .start * 8)
   row-scaled = record { fits = omega (arith, held-order N ks t keys rests count h node r e, held-keyed N ks t keys rests count h node r e, held-room N ks t keys rests count h) }
 
-  keys-long : length (take (r .end - r .start) (drop (r .start) keys)) ≡ r .end - r .start
-  keys-long = length-take-le _ _ (omega (arith, held-order N ks t keys rests count h node r e, held-keyed N ks t keys rests count h node r e, length-drop (r .start) keys))
-
-  rests-long : length (take (r .end - r .start) (drop (r .start) rests)) ≡ r .end - r .start
-  rests-long = length-take-le _ _ (omega (arith, held-order N ks t keys rests count h node r e, held-rested N ks t keys rests count h node r e, length-drop (r .start) rests))
-
-  pub rests-same : length (take (r .end - r .start) (drop (r .start) rests)) ≡ length (take (r .end - r .start) (drop (r .start) keys))
-  rests-same = omega (arith, keys-long, rests-long)
-
   module _ (on : Bool) (is : on ≡ onRing N node) (there : on ≡ true) where
     -- at most as many as the node has ports
     pub keys-few : length (take (r .end - r .start) (drop (r .start) keys)) ≤ mostPorts
-    keys-few = omega (arith, keys-long, held-sends N ks t keys rests count h node r e, sends-most N ks t (rules-hold N ks t (h .rules)) node (rw is at there))
+    keys-few = omega (arith, keys-long N ks t keys rests count h node r e, held-sends N ks t keys rests count h node r e, sends-most N ks t (rules-hold N ks t (h .rules)) node (rw is at there))
 
     -- so the answer is that of its entries
     pub from-row : (l l′ : List ℕ) (at k : ℕ) → Printed fromRoom l at (rowText node (entriesIn (take (r .end - r .start) (drop (r .start) keys)) (take (r .end - r .start) (drop (r .start) rests)))) l′ k

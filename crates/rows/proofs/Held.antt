@@ -1,13 +1,13 @@
 -- The row of a node where keys and rests hold a table: the entries of the node, as many as it sends. Assumes nothing. `search (needs, held)`
 -- finds what a caller that lends the row has to show.
 use Prim.Native.Nat.{ℕ, zero, suc, _+_, _-_, _≤_}
-use mathlib.Core.Path.{_≡_, refl, ap, _∙_}
+use mathlib.Core.Path.{_≡_, refl, sym, ap, _∙_}
 use mathlib.Core.Bool.{true}
 use mathlib.Core.List.{List, [], _∷_, map}
 use native.Mathlib.Omega.{arith}
-use lib.ListN.{length, getD, take, drop}
+use lib.ListN.{length, getD, take, drop, length-drop}
 use lib.Dec.{leb}
-use lib.Seq.{take-take}
+use lib.Seq.{length-take-le, take-take}
 use borrow.Author.Tests.{leb-true}
 use Rattle.basis.specs.Count.{All}
 use Rattle.basis.proofs.Bools.{and-left, and-right, all-map}
@@ -111,6 +111,13 @@ module _ (N : ℕ) (ks : List ℕ) (t : Channels) (keys rests : List ℕ) (count
 
     pub held-rested : r .end ≤ length rests
     held-rested = omega (arith, within, few, held-room)
+
+    -- its keys and its rests are as many
+    pub keys-long : length (take (r .end - r .start) (drop (r .start) keys)) ≡ r .end - r .start
+    keys-long = length-take-le _ _ (omega (arith, held-order, held-keyed, length-drop (r .start) keys))
+
+    pub rests-same : length (take (r .end - r .start) (drop (r .start) rests)) ≡ length (take (r .end - r .start) (drop (r .start) keys))
+    rests-same = length-take-le _ _ (omega (arith, held-order, held-rested, length-drop (r .start) rests)) ∙ sym keys-long
 
     -- it is as long as the node sends circuits
     pub held-sends : r .end - r .start ≡ sends node (circuits t)

@@ -7,24 +7,14 @@ use std::process::ExitCode;
 
 use ring::lookup::list_circuits_from;
 use ring::table::Lightpath;
-use ring::timed::{only_count, read_table};
+use ring::timed::{read_table, run_counted};
 
 const USAGE: &str = "usage: reference-from COUNT < form > checksum
   look up the circuits from each node, 1 to N in turn, COUNT times over, and write a checksum of all
   of them: four bytes, highest first";
 
 fn main() -> ExitCode {
-    let Some(count) = only_count() else {
-        eprintln!("{USAGE}");
-        return ExitCode::from(2);
-    };
-    match run(count) {
-        Ok(()) => ExitCode::SUCCESS,
-        Err(message) => {
-            eprintln!("reference-from: {message}");
-            ExitCode::FAILURE
-        }
-    }
+    run_counted("reference-from", USAGE, run)
 }
 
 /// Each lookup is as if the table were another; the checksum goes on through all of them.

@@ -8,24 +8,14 @@ use ring::form::{self, FORM_MOST};
 use ring::opening::Move;
 use ring::table::Table;
 use ring::tidying::{Tidying, RECORDS_LEAST};
-use ring::timed::{only_count, read_table};
+use ring::timed::{read_table, run_counted};
 
 const USAGE: &str = "usage: reference-tidy COUNT < form > tidied
   tidy the form's table COUNT times, each time anew, and write what the last time gave: a byte each
   for the rounds and the moves, six bytes for each move, and the form of the tidied table";
 
 fn main() -> ExitCode {
-    let Some(count) = only_count() else {
-        eprintln!("{USAGE}");
-        return ExitCode::from(2);
-    };
-    match run(count) {
-        Ok(()) => ExitCode::SUCCESS,
-        Err(message) => {
-            eprintln!("reference-tidy: {message}");
-            ExitCode::FAILURE
-        }
-    }
+    run_counted("reference-tidy", USAGE, run)
 }
 
 fn run(count: u64) -> Result<(), String> {

@@ -49,7 +49,7 @@ same-length-3 : tie.Need-same-length-3
 same-length-3 c = search needs
 
 returns : tie.Need-returns
-returns c = search (needs, line-run, refused-line, opens)
+returns c = search (needs, line-run, opens)
 
 same-length-4 : tie.Need-same-length-4
 same-length-4 c = search needs
@@ -61,7 +61,7 @@ same-length-6 : tie.Need-same-length-6
 same-length-6 c = search needs
 
 returns-2 : tie.Need-returns-2
-returns-2 c = search (needs, line-run, refused-line, opens)
+returns-2 c = search (needs, line-run, opens)
 
 same-length-7 : tie.Need-same-length-7
 same-length-7 c = search needs
@@ -73,7 +73,7 @@ same-length-9 : tie.Need-same-length-9
 same-length-9 c = search needs
 
 returns-3 : tie.Need-returns-3
-returns-3 c = search (needs, line-run, refused-line, opens)
+returns-3 c = search (needs, line-run, opens)
 
 same-length-10 : tie.Need-same-length-10
 same-length-10 c = search needs
