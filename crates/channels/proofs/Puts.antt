@@ -53,6 +53,10 @@ pub puts-there : (chs : List Change) (t : Channels) (q : ℕ) → Spared chs q �
 puts-there [] t q h = refl
 puts-there (ch ∷ chs) t q h = puts-there chs (put ch t) q (h .1) ∙ put-there ch t q (h .0)
 
+-- changes of places below a limit leave every place from the limit up as it was
+pub puts-above : (m : ℕ) (chs : List Change) (t : Channels) → All (λ ch. ch .place < m) chs → (q : ℕ) → m ≤ q → at (puts chs t) q ≡ at t q
+puts-above m chs t low q l = puts-there chs t q (all-map _ _ (λ ch k e. omega arith) chs low)
+
 -- a changed one has its new content
 pub puts-here : (chs : List Change) (t : Channels) → Apart chs → Within t chs → All (λ ch. at (puts chs t) (ch .place) ≡ ch .slot) chs
 puts-here [] t a l = tt

@@ -25,8 +25,8 @@ use Rattle.rules.proofs.Fits.{alone-fits, alone-joins, together-fits}
 use Rattle.rules.proofs.Allowable.{Allowable}
 use Rattle.steps.specs.Plan.{Plan, joining, lighting, oneMove, twoMoves, threeMoves}
 use Rattle.steps.specs.Kept.{PlanKeeps}
-use Rattle.steps.proofs.Following.{Known, follow-joining, follow-lighting, follow-one, follow-two, follow-three}
-use Rattle.steps.proofs.Sound.{Inside, has, old-place, serves}
+use Rattle.steps.proofs.Sound.{Inside, has, old-place}
+use Rattle.steps.proofs.Serves.{serves}
 
 -- a plan that opens c
 abbrev pub Good : ℕ → List ℕ → Channels → Circuit → Plan → Type 0
@@ -54,14 +54,6 @@ module _ (N : ℕ) (ks : List ℕ) (t : Channels) (rules : Rules N ks t) where
   -- so it fits alone at any place
   fits-alone : (p : ℕ) (m : Standing) → Stands (limitOf ks) t m → fits N p (alone (m .circuit)) ≡ true
   fits-alone p m s = alone-fits N p (m .circuit) (ends m s)
-
-  -- it is the circuit of its number
-  pub known : (m : Standing) → Stands (limitOf ks) t m → Known t m
-  known m s = record {
-    there = s .there;
-    within = inside (m .place) (s .low);
-    own = rw (old-place N ks t rules (m .place) (m .circuit) (has N ks t rules m s), s .there);
-  }
 
   -- two at two places have two numbers
   two-numbers : (a b : Standing) → Stands (limitOf ks) t a → Stands (limitOf ks) t b → a .place ≢ b .place → a .circuit .number ≢ b .circuit .number
@@ -97,7 +89,7 @@ module _ (N : ℕ) (ks : List ℕ) (t : Channels) (c : Circuit) (rules : Rules N
         gave = λ w. omega (arith, together-weighs w (a .circuit) c);
         stayed = ((has N ks t rules a sa, inl (refl, left (a .circuit) c)), tt);
         went = tt;
-      }) (sa .low, tt) (inl (refl, right (a .circuit) c)) zero-le (follow-joining t c a (known N ks t rules a sa))
+      }) (sa .low, tt) (inl (refl, right (a .circuit) c)) zero-le
 
   -- step 2
   pub lighted : (p : ℕ) → p < limitOf ks → at t p ≡ unlit → Good N ks t c (lighting c p)
@@ -111,7 +103,7 @@ module _ (N : ℕ) (ks : List ℕ) (t : Channels) (c : Circuit) (rules : Rules N
         gave = λ w. omega arith;
         stayed = tt;
         went = tt;
-      }) (l, tt) (inl (refl, one c)) zero-le (follow-lighting t c p e)
+      }) (l, tt) (inl (refl, one c)) zero-le
 
   -- step 3a
   pub one-moved : (a b : Standing) (k : ℕ) → Stands (limitOf ks) t a → Stands (limitOf ks) t b → a .place ≢ b .place
@@ -126,7 +118,7 @@ module _ (N : ℕ) (ks : List ℕ) (t : Channels) (c : Circuit) (rules : Rules N
         gave = λ w. omega (arith, together-weighs w (a .circuit) (b .circuit));
         stayed = ((has N ks t rules a sa, inl (refl, left (a .circuit) (b .circuit))), tt);
         went = ((has N ks t rules b sb, inl (refl, right (a .circuit) (b .circuit)), λ e. n (sym e)), tt);
-      }) (sa .low, (sb .low, tt)) (inr (inl (refl, one c))) (omega arith) (follow-one t c a b k (known N ks t rules a sa) (known N ks t rules b sb) n)
+      }) (sa .low, (sb .low, tt)) (inr (inl (refl, one c))) (omega arith)
 
   -- step 3b with an old member and the new circuit
   pub two-moved : (x a : Standing) (k : ℕ) → Stands (limitOf ks) t x → Stands (limitOf ks) t a → x .place ≢ a .place
@@ -144,7 +136,7 @@ module _ (N : ℕ) (ks : List ℕ) (t : Channels) (c : Circuit) (rules : Rules N
           (has N ks t rules x sx, inr (inl (refl, one (x .circuit))), n),
           ((has N ks t rules a sa, inl (refl, left (a .circuit) c), λ e. n (sym e)), tt),
         );
-      }) (sx .low, (sa .low, tt)) (inl (refl, right (a .circuit) c)) (omega arith) (follow-two t c x a k (known N ks t rules x sx) (known N ks t rules a sa) n)
+      }) (sx .low, (sa .low, tt)) (inl (refl, right (a .circuit) c)) (omega arith)
 
   -- step 3b with two old members
   pub three-moved : (x a b : Standing) (k : ℕ) → Stands (limitOf ks) t x → Stands (limitOf ks) t a → Stands (limitOf ks) t b
@@ -174,4 +166,3 @@ module _ (N : ℕ) (ks : List ℕ) (t : Channels) (c : Circuit) (rules : Rules N
           ),
         );
       }) (sx .low, (sa .low, (sb .low, tt))) (inr (inr (inl (refl, one c)))) (omega arith)
-      (follow-three t c x a b k (known N ks t rules x sx) (known N ks t rules a sa) (known N ks t rules b sb) xa xb ab)

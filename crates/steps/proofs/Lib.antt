@@ -1,8 +1,12 @@
--- The laws of the steps: following the records, what sound changes keep, the five cases, the searches, step 2's place, the candidates,
--- step 3's two claims, the plan, a pair that can share both ways, looks; closing; and one operation after another, what is kept and the
--- records of both.
-pub mod Following
+-- The laws of the steps: what sound changes keep, one operation after another, taking down and setting up, carrying out records, what serves
+-- an opening, the five cases, the searches, step 2's place, the candidates, step 3's two claims, the plan, a pair that can share both ways,
+-- looks; and closing.
 pub mod Sound
+pub mod Chain
+pub mod Placing
+pub mod Carrying
+pub mod Again
+pub mod Serves
 pub mod Five
 pub mod Searches
 pub mod ShorterWay
@@ -12,5 +16,3 @@ pub mod Steps
 pub mod BothWays
 pub mod Looks
 pub mod Closing
-pub mod Chain
-pub mod Records

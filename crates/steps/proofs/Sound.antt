@@ -26,16 +26,13 @@ use Rattle.channels.proofs.Puts.{Apart, Within, Spared, taken, given, puts-leng
 use Rattle.channels.proofs.Numbers.{stands-at, dead-nowhere}
 use Rattle.channels.proofs.Nonsharing.{Stands}
 use Rattle.moves.specs.declared.Move.{Move}
-use Rattle.moves.specs.Records.{mostMoves}
 use Rattle.ports.specs.Ports.{limitOf}
 use Rattle.rules.specs.Rules.{fits}
 use Rattle.rules.proofs.Rules.{PortsHold, Rules, rules-test, limits-hold}
 use Rattle.rules.proofs.Unlit.{Dark, unlit-puts}
 use Rattle.rules.proofs.Fits.{rules-links}
-use Rattle.rules.proofs.Allowable.{Allowable, ports-more, numbers-more}
 use Rattle.steps.specs.Plan.{movesTo}
-use Rattle.steps.specs.Following.{followed}
-use Rattle.steps.specs.Kept.{Kept, PlanKeeps}
+use Rattle.steps.specs.Kept.{Kept}
 use Rattle.steps.specs.Moved.{moved, Names}
 
 -- an old circuit that goes to another place
@@ -80,7 +77,7 @@ shift-tally k [] = refl
 shift-tally k (s ∷ ss) = omega (arith, shift-tally k ss)
 
 -- there is a record for each shift
-shift-length : (ss : List Shift) → length (shifts ss) ≡ length ss
+pub shift-length : (ss : List Shift) → length (shifts ss) ≡ length ss
 shift-length [] = refl
 shift-length (s ∷ ss) = ap suc (shift-length ss)
 
@@ -258,7 +255,7 @@ module _ (N : ℕ) (ks : List ℕ) (t : Channels) (gone new : List Circuit) (chs
   )
 
   -- what a place gets stands there
-  placed : (q : ℕ) (x : Circuit) → Gets chs q x → whereIs (puts chs t) (x .number) ≡ q
+  pub placed : (q : ℕ) (x : Circuit) → Gets chs q x → whereIs (puts chs t) (x .number) ≡ q
   placed q x g = new-place q x (lands q x g)
 
   -- all is kept
@@ -279,16 +276,3 @@ module _ (N : ℕ) (ks : List ℕ) (t : Channels) (gone new : List Circuit) (chs
     once = all-map _ _ (λ x h. bit-zero _ _ h) (circuits t) (weigh-zero _ (circuits t) none-astray);
     links = rules-links N ks (puts chs t) again;
   }
-
--- sound changes below the limit that give c to place p open c at p, where the records lead to them
-pub serves : (N : ℕ) (ks : List ℕ) (t : Channels) (c : Circuit) (chs : List Change) (p : ℕ) (stay : List Standing) (go : List Shift)
-    → Rules N ks t → Allowable N ks t c → Sound N t [] (c ∷ []) chs stay go → All (λ ch. ch .place < limitOf ks) chs → Gets chs p c
-    → length go ≤ mostMoves → followed t (shifts go) c p ≡ puts chs t → PlanKeeps N ks t c (puts chs t) p (shifts go)
-serves N ks t c chs p stay go rules may s low g few follows =
-    let dark : Dark (limitOf ks) t chs = all-map _ _ (λ ch k h e. absurd (omega arith)) chs low in
-    record {
-      kept = keeps N ks t [] (c ∷ []) chs stay go rules (numbers-more N ks t c rules may) (ports-more N ks t c rules may) s dark;
-      placed = placed N ks t [] (c ∷ []) chs stay go rules (numbers-more N ks t c rules may) (ports-more N ks t c rules may) s dark p c g;
-      few = omega (arith, shift-length go);
-      follows = follows;
-    }

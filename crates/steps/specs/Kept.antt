@@ -1,6 +1,6 @@
 -- What an opening or a closing keeps, from the places t to the places t′ of a ring of N nodes with the port counts ks. Assumes nothing.
 -- States the laws of opening and closing. Serves proofs inside only.
-use Prim.Native.Nat.{ℕ, _+_, _≤_}
+use Prim.Native.Nat.{ℕ, _+_, _≤_, _<_}
 use mathlib.Core.Path.{_≡_}
 use mathlib.Core.Bool.{true}
 use mathlib.Core.List.{List, [], _∷_}
@@ -8,9 +8,10 @@ use lib.ListN.{length}
 use Rattle.basis.specs.Choice.{bit}
 use Rattle.basis.specs.Count.{weigh, tally, All}
 use Rattle.lightpath.specs.declared.Circuit.{Circuit}
-use Rattle.channels.specs.Channels.{Channels, circuits, whereIs}
+use Rattle.channels.specs.Channels.{Channels, at, circuits, whereIs}
 use Rattle.moves.specs.declared.Move.{Move}
 use Rattle.moves.specs.Records.{mostMoves}
+use Rattle.ports.specs.Ports.{limitOf}
 use Rattle.rules.specs.Rules.{ringRules, carried}
 use Rattle.steps.specs.Following.{followed}
 use Rattle.steps.specs.Moved.{moved, Names}
@@ -35,6 +36,10 @@ pub record PlanKeeps (N : ℕ) (ks : List ℕ) (t : Channels) (c : Circuit) (t�
   pub kept : Kept N ks t [] (c ∷ []) t′ ms
   -- the place taken is the new circuit's in the second table
   pub placed : whereIs t′ (c .number) ≡ p
+  -- it is usable
+  pub usable : p < limitOf ks
+  -- places from the limit up hold what they held
+  pub above : (q : ℕ) → limitOf ks ≤ q → at t′ q ≡ at t q
   -- at most three have moved
   pub few : length ms ≤ mostMoves
   -- a host that takes the listed circuits down, then sets each up at its new place and the new one at the place taken, has the second table

@@ -1,8 +1,7 @@
--- The laws of a tidying: what stays where it is, pairs, the records of a round, one round, the rounds together, and what stands apart
+-- The laws of a tidying: what stays where it is, pairs, one round, the rounds together, and what stands apart
 -- afterwards.
 pub mod Settled
 pub mod Pairs
-pub mod Records
 pub mod Round
 pub mod Tidying
 pub mod Apart

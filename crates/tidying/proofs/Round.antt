@@ -18,6 +18,7 @@ use Rattle.channels.specs.Channels.{Channels, at, litPlaces}
 use Rattle.channels.specs.Change.{puts}
 use Rattle.channels.specs.declared.Change.{Change}
 use Rattle.channels.specs.declared.Standing.{Standing}
+use Rattle.channels.proofs.Puts.{puts-above}
 use Rattle.channels.proofs.Nonsharing.{Stands}
 use Rattle.ports.specs.Ports.{limitOf}
 use Rattle.rules.proofs.Rules.{Rules, limits-hold}
@@ -25,10 +26,10 @@ use Rattle.rules.proofs.Unlit.{Dark}
 use Rattle.steps.specs.Following.{relocated}
 use Rattle.steps.specs.Kept.{Kept}
 use Rattle.steps.proofs.Sound.{Shift, shifts, Sound, has, keeps}
-use Rattle.steps.proofs.Five.{left, right, inside, known, olds-fit}
+use Rattle.steps.proofs.Carrying.{relocates}
+use Rattle.steps.proofs.Five.{left, right, olds-fit}
 use Rattle.tidying.specs.Round.{Round, toMember, toUnlit, canRound, roundOf}
 use Rattle.tidying.proofs.Settled.{Settles}
-use Rattle.tidying.proofs.Records.{follow-join, follow-pair}
 use Rattle.tidying.proofs.Pairs.{Joining, joining-lit, joining-settles, other-place, member-joining, unlit-joining, round-by}
 
 -- what a round r of the places t keeps and does
@@ -37,6 +38,8 @@ pub record Keeps (N : ℕ) (ks : List ℕ) (t : Channels) (r : Round) : Type 0 w
   -- one place fewer is lit
   pub lower : litPlaces (puts (r .changes) t) + 1 ≡ litPlaces t
   pub settles : Settles t (puts (r .changes) t)
+  -- places from the limit up hold what they held
+  pub above : (q : ℕ) → limitOf ks ≤ q → at (puts (r .changes) t) q ≡ at t q
   -- one or two moves, of circuits that were alone
   pub short : length (r .moves) ≤ 2
   pub alone : All (λ n. isAlone (at t (n .from .0)) ≡ true) (r .moves)
@@ -50,17 +53,19 @@ module _ (N : ℕ) (ks : List ℕ) (t : Channels) (rules : Rules N ks t) where
 
   -- sound changes below the limit that join two, with one or two moves, keep it all
   keeps-by : (chs : List Change) (stay : List Standing) (go : List Shift) → Sound N t [] [] chs stay go → All (λ ch. ch .place < m) chs
-      → Joining t chs → length (shifts go) ≤ 2 → All (λ n. isAlone (at t (n .from .0)) ≡ true) (shifts go) → relocated t (shifts go) ≡ puts chs t
+      → Joining t chs → length (shifts go) ≤ 2 → All (λ n. isAlone (at t (n .from .0)) ≡ true) (shifts go)
       → Keeps N ks t (record { changes = chs; moves = shifts go })
-  keeps-by chs stay go s low j few lone follows =
+  keeps-by chs stay go s low j few lone =
       let dark : Dark m t chs = all-map _ _ (λ ch k h e. absurd (omega arith)) chs low in
+      let all = keeps N ks t [] [] chs stay go rules (rules .numbers) (rules .ports) s dark in
       record {
-        kept = keeps N ks t [] [] chs stay go rules (rules .numbers) (rules .ports) s dark;
+        kept = all;
         lower = joining-lit t chs j;
         settles = joining-settles t chs j (limits-hold N ks t rules .long);
+        above = puts-above m chs t low;
         short = few;
         alone = lone;
-        follows = follows;
+        follows = relocates N ks t (puts chs t) (shifts go) rules all;
       }
 
   within : m ≤ length t
@@ -81,7 +86,6 @@ module _ (N : ℕ) (ks : List ℕ) (t : Channels) (rules : Rules N ks t) where
         stayed = ((has N ks t rules a sa, inl (refl, left (a .circuit) (b .circuit))), tt);
         went = ((has N ks t rules b sb, inl (refl, right (a .circuit) (b .circuit)), λ e. n (sym e)), tt);
       }) (sa .low, (sb .low, tt)) j (omega arith) (rw (sb .there) refl, tt)
-      (follow-join t a b (known N ks t rules a sa) (known N ks t rules b sb) n)
 
   -- both go to an unlit place
   both-keep : (p : ℕ) (a b : Standing) → p < m → at t p ≡ unlit → Stands m t a → Stands m t b → a .place ≢ b .place
@@ -101,8 +105,6 @@ module _ (N : ℕ) (ks : List ℕ) (t : Channels) (rules : Rules N ks t) where
           ((has N ks t rules b sb, inl (refl, right (a .circuit) (b .circuit)), other-place m t p dark b sb), tt),
         );
       }) (l, (sa .low, (sb .low, tt))) j (omega arith) (rw (sa .there) refl, (rw (sb .there) refl, tt))
-      (follow-pair t p a b dark (inside N ks t rules p l) (known N ks t rules a sa) (known N ks t rules b sb) n (other-place m t p dark a sa)
-      (other-place m t p dark b sb))
 
   -- so each round does
   pub round-keeps : canRound N m t ≡ true → Keeps N ks t (roundOf N m t)

@@ -22,7 +22,7 @@ use Rattle.steps.specs.Following.{relocated}
 use Rattle.steps.specs.Kept.{Kept}
 use Rattle.steps.specs.Moved.{Names}
 use Rattle.steps.proofs.Chain.{AtMostOnce, same-live, nothing-kept, kept-then}
-use Rattle.steps.proofs.Records.{alone-untouched, follow-then}
+use Rattle.steps.proofs.Carrying.{relocates}
 use Rattle.tidying.specs.Round.{joinable, canRound, roundOf, rounded}
 use Rattle.tidying.specs.Tidying.{Tidying, tidyWithin, mostRounds, tidyUp}
 use Rattle.tidying.proofs.Settled.{Settles, settles-same, settles-then, no-twice}
@@ -56,6 +56,8 @@ pub record Rounds (k N : ℕ) (ks : List ℕ) (t : Channels) (o : Tidying) : Typ
   pub kept : Kept N ks t [] [] (o .places) (o .moves)
   pub lit : litPlaces (o .places) + o .rounds ≡ litPlaces t
   pub settles : Settles t (o .places)
+  -- places from the limit up hold what they held
+  pub above : (q : ℕ) → limitOf ks ≤ q → at (o .places) q ≡ at t q
   pub few : o .rounds ≤ k
   pub short : length (o .moves) ≤ 2 * o .rounds
   pub alone : All (λ n. isAlone (at t (n .from .0)) ≡ true) (o .moves)
@@ -69,6 +71,7 @@ module _ (N : ℕ) (ks : List ℕ) where
     kept = nothing-kept N ks t rules;
     lit = omega arith;
     settles = settles-same t;
+    above = λ q l. refl;
     few = zero-le;
     short = zero-le;
     alone = tt;
@@ -81,15 +84,14 @@ module _ (N : ℕ) (ks : List ℕ) where
       → Rounds (suc k) N ks t (record { places = o .places; rounds = suc (o .rounds); moves = roundOf N (limitOf ks) t .moves ++ o .moves })
   more-do k t o rules can r =
       record {
-        kept = kept-then N ks t t₁ (o .places) ms (o .moves) rules (j .kept) (r .kept) once;
+        kept = all;
         lit = omega (arith, j .lower, r .lit);
         settles = settles-then t t₁ (o .places) (j .settles) (r .settles);
+        above = λ q l. r .above q l ∙ j .above q l;
         few = omega (arith, r .few);
         short = omega (arith, r .short, j .short, length-append ms (o .moves));
         alone = all-join _ ms (o .moves) (j .alone) (all-map _ _ before (o .moves) (all-and _ _ (o .moves) (r .kept .named) (r .alone)));
-        follows =
-            follow-then t t₁ (o .places) ms (o .moves) (j .follows) (r .follows)
-            (alone-untouched N ks t t₁ (o .places) ms (o .moves) rules (j .kept) (r .kept) once (r .alone));
+        follows = relocates N ks t (o .places) (ms ++ o .moves) rules all;
         done = λ h. r .done (omega (arith, round-lone N (limitOf ks) t within can));
       }
     where
@@ -115,6 +117,9 @@ module _ (N : ℕ) (ks : List ℕ) where
       once =
           no-twice N ks t t₁ (o .places) rules (rules-hold N ks t₁ (j .kept .rules)) (rules-hold N ks (o .places) (r .kept .rules))
           (same-live N ks t t₁ ms (j .kept)) (j .settles) (r .settles)
+
+      all : Kept N ks t [] [] (o .places) (ms ++ o .moves)
+      all = kept-then N ks t t₁ (o .places) ms (o .moves) rules (j .kept) (r .kept) once
 
   -- so it is with at most k rounds
   pub rounds-do : (k : ℕ) (t : Channels) → Rules N ks t → Rounds k N ks t (tidyWithin k N (limitOf ks) t)
