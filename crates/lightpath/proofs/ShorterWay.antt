@@ -12,7 +12,7 @@ use Rattle.basis.specs.Count.{countBelow}
 use Rattle.basis.proofs.Below.{count-same, count-balance, count-none, count-every, count-less}
 use Rattle.basis.proofs.Compare.{ltb-same}
 use Rattle.lightpath.specs.Place.{Direction, clockwise, counterclockwise, otherWay}
-use Rattle.lightpath.specs.Circuit.{Circuit, hops, uses, linksUsed, shortClockwise, shorterWay}
+use Rattle.lightpath.specs.Circuit.{Circuit, hops, uses, linksOver, linksUsed, shortClockwise, shorterWay}
 use Rattle.lightpath.specs.Ends.{startOf, stopOf}
 use Rattle.lightpath.proofs.Links.{OnRing, Ahead, ahead-cases}
 use Rattle.lightpath.proofs.Onward.{arc}
@@ -91,11 +91,11 @@ links-below N s low high =
     ∙ count-less N (s - 1) (omega arith)
 
 -- the number of links that a lightpath uses is that of the links 1 to N that it is over
-pub links-counted : (N : ℕ) (c : Circuit) → OnRing N c → (d : Direction) → countBelow N (λ i. uses N d c (suc i)) ≡ linksUsed N d c
+pub links-counted : (N : ℕ) (c : Circuit) → OnRing N c → (d : Direction) → linksOver N d c ≡ linksUsed N d c
 links-counted N c o d = go d (ahead-cases N (c .source) (c .destination) (o .sourceLow) (o .sourceHigh) (o .destLow) (o .destHigh))
   where
     -- all of them, and those below the start, are those below the stop, and all where that is the lower
-    sum : (d : Direction) → countBelow N (λ i. uses N d c (suc i)) + countBelow N (λ i. ltb (suc i) (startOf d c))
+    sum : (d : Direction) → linksOver N d c + countBelow N (λ i. ltb (suc i) (startOf d c))
         ≡ countBelow N (λ i. ltb (suc i) (stopOf d c)) + countBelow N (λ i. ltb (stopOf d c) (startOf d c))
     sum d =
         count-balance N (λ i. uses N d c (suc i)) (λ i. ltb (suc i) (startOf d c)) (λ i. ltb (suc i) (stopOf d c)) (λ i. ltb (stopOf d c) (startOf d c))
@@ -113,12 +113,12 @@ links-counted N c o d = go d (ahead-cases N (c .source) (c .destination) (o .sou
     none : (x y : ℕ) → y ≤ x → countBelow N (λ i. ltb x y) ≡ 0
     none x y l = count-none N (λ i. ltb x y) (λ i k. le-ltb x y l)
 
-    go : (d : Direction) → Ahead N (c .source) (c .destination) → countBelow N (λ i. uses N d c (suc i)) ≡ linksUsed N d c
+    go : (d : Direction) → Ahead N (c .source) (c .destination) → linksOver N d c ≡ linksUsed N d c
     go clockwise (inl a) = omega (arith, sum clockwise, source, destination, none (c .destination) (c .source) (a .0), a .1, o)
     go clockwise (inr a) = omega (arith, sum clockwise, source, destination, all (c .destination) (c .source) (a .0), a .1, o)
     go counterclockwise (inl a) = by (decLt (c .source) (c .destination))
       where
-        by : Dec (c .source < c .destination) → countBelow N (λ i. uses N counterclockwise c (suc i)) ≡ linksUsed N counterclockwise c
+        by : Dec (c .source < c .destination) → linksOver N counterclockwise c ≡ linksUsed N counterclockwise c
         by (yes l) = omega (arith, sum counterclockwise, source, destination, all (c .source) (c .destination) l, a .1, o)
         by (no n) = absurd (o .apart (omega (arith, a .0)))
     go counterclockwise (inr a) =

@@ -1,11 +1,11 @@
 -- 01, "The ring": circuits on a ring of N nodes, their hops and links, and which two can share. Assumes nothing.
 -- What the calls on circuits promise, and every promise means by these words.
-use Prim.Native.Nat.{ℕ, _+_, _-_, _%_}
+use Prim.Native.Nat.{ℕ, suc, _+_, _-_, _%_}
 use mathlib.Core.Bool.{Bool, _&&_, _||_, not}
 use mathlib.Core.List.{List}
 use lib.Dec.{eqb, leb, ltb}
 use Rattle.basis.specs.Choice.{pick, bit}
-use Rattle.basis.specs.Count.{weigh}
+use Rattle.basis.specs.Count.{weigh, countBelow}
 use Rattle.lightpath.specs.Place.{Direction, clockwise, counterclockwise}
 pub use Rattle.lightpath.specs.declared.Circuit.{Circuit}
 
@@ -38,6 +38,10 @@ hops N c = ahead N (c .source) (c .destination)
 abbrev pub uses : ℕ → Direction → Circuit → ℕ → Bool
 uses N clockwise c l = ltb (ahead N (c .source) l) (hops N c)
 uses N counterclockwise c l = not (ltb (ahead N (c .source) l) (hops N c))
+
+-- how many of the links 1 to N its lightpath of direction d is over
+abbrev pub linksOver : ℕ → Direction → Circuit → ℕ
+linksOver N d c = countBelow N (λ i. uses N d c (suc i))
 
 -- how many links it uses: clockwise as many as hops, counterclockwise the others
 abbrev pub linksUsed : ℕ → Direction → Circuit → ℕ

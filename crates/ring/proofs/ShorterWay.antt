@@ -1,14 +1,13 @@
 -- 02, E6, of an opening of a table that meets the ring rules: where no circuit can be joined and a place below 2 × W is unlit, it takes an
 -- unlit place and moves nothing; among the unlit places that one uses the fewest links, clockwise when equal, and is the lowest of its
 -- direction; where one of the shorter way was unlit, its lightpath uses at most half of the links. Assumes nothing.
-use Prim.Native.Nat.{ℕ, suc, _/_, _≤_, _<_}
+use Prim.Native.Nat.{ℕ, _/_, _≤_, _<_}
 use mathlib.Core.Path.{_≡_, ap, _∙_}
 use mathlib.Core.Bool.{true}
 use mathlib.Core.List.{[], _∷_}
 use borrow.Author.Tests.{lt-ltb, le-ltb}
-use Rattle.basis.specs.Count.{countBelow}
 use Rattle.lightpath.specs.Place.{directionOf}
-use Rattle.lightpath.specs.Circuit.{uses, linksUsed, shorterWay}
+use Rattle.lightpath.specs.Circuit.{linksOver, linksUsed, shorterWay}
 use Rattle.lightpath.specs.declared.Direction.{Direction}
 use Rattle.lightpath.specs.declared.Direction.the-variants.{Clockwise as clockwise}
 use Rattle.lightpath.specs.declared.Circuit.{Circuit}
@@ -26,10 +25,6 @@ use Rattle.ring.specs.Table.{RingTable, meetsRules}
 use Rattle.ring.specs.Opening.{openCauses, decideOf}
 use Rattle.ring.specs.Answer.{openingAnswer}
 use Rattle.ring.proofs.Deciding.{decided, permits}
-
--- how many of the links 1 to N a circuit's lightpath of direction d is over
-abbrev pub linksOver : ℕ → Direction → Circuit → ℕ
-linksOver N d c = countBelow N (λ i. uses N d c (suc i))
 
 module _ (t : RingTable) (c : Circuit) (n : ℕ) (rules : meetsRules t ≡ true) (served : judged (openCauses t c n) ≡ granted)
     (alone : limitOf (t .ports) ≤ joinPlace (t .nodes) (limitOf (t .ports)) (t .channels) c) where
