@@ -1,8 +1,8 @@
 -- Sharing: the rest of the product uses these laws of it and not its definition. Assumes nothing.
 use Prim.Native.Nat.{ℕ, _+_, _≤_}
-use mathlib.Core.Path.{_≡_, refl, sym}
+use mathlib.Core.Path.{_≡_, refl, sym, _∙_}
 use mathlib.Core.Logic.{_≢_}
-use mathlib.Core.Bool.{Bool, true, false, or-comm}
+use mathlib.Core.Bool.{Bool, true, false, or-comm, true≢false}
 use native.Mathlib.Nat.{add-comm}
 use native.Mathlib.Omega.{arith}
 use lib.Dec.{eqb}
@@ -78,3 +78,8 @@ can-only N counterclockwise a b n h = rw (sym (fails (canShare N clockwise a b) 
   where
     both : canShare N clockwise a b ≡ true → hops N a + hops N b ≡ N
     both k = let most = and-right (adjacent a b) _ k in let least = and-right (adjacent a b) _ h in omega (arith, leb-true)
+
+-- so one that cannot share in some direction can share in one only
+pub can-other : (N : ℕ) (d e : Direction) (a b : Circuit) → canShare N d a b ≡ false → canShare N e a b ≡ true → e ≡ shareDirection N a b
+can-other N d e a b wrong can =
+    can-only N e a b (λ total. true≢false (sym (can-both N d a b (can-adjacent N e a b can) total) ∙ wrong)) can

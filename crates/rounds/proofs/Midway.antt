@@ -8,16 +8,13 @@ use native.Mathlib.Omega.{arith}
 use lib.ListN.{length, length-append}
 use borrow.Author.Tests.{ltb-true}
 use Rattle.basis.specs.Choice.{pick}
-use Rattle.basis.specs.Search.{pairsOf}
 use Rattle.basis.proofs.Arrays.{array-length}
 use Rattle.basis.proofs.Bools.{and-right}
-use Rattle.basis.proofs.Search.{all-at, found-passes}
 use Rattle.limits.specs.Limits.{placeCount, tidyRecords}
 use Rattle.lightpath.specs.Circuit.{adjacent, shareDirection}
 use Rattle.channels.specs.Channels.{Channels}
 use Rattle.channels.specs.Change.{puts}
 use Rattle.channels.specs.Changes.{inOrder}
-use Rattle.channels.specs.Nonsharing.{nonsharing, standingAt}
 use Rattle.channels.specs.declared.Standing.{Standing}
 use Rattle.channels.proofs.Puts.{puts-length}
 use Rattle.moves.specs.Records.{listed}
@@ -29,9 +26,10 @@ use Rattle.moves.proofs.Listed.{listed-moves}
 use Rattle.moves.proofs.Appending.{append-list}
 use Rattle.steps.specs.Steps.{standsRight}
 use Rattle.plan.proofs.ByValue.{carries}
-use Rattle.tidying.specs.Round.{Round, toMember, toUnlit, joinable, passedOver, canRound, roundPair, roundOf, rounded}
+use Rattle.tidying.specs.Round.{Round, toMember, toUnlit, joinable, canRound, roundPair, roundOf, rounded}
 use Rattle.tidying.specs.Tidying.{Tidying, tidyWithin, mostRounds, tidyUp}
-use Rattle.tidying.proofs.Pairs.{Pair, pairs-stand, aloneCount, alone-most, joining-settles, round-joining, round-lone}
+use Rattle.tidying.proofs.Choice.{round-pair, round-joinable}
+use Rattle.tidying.proofs.Pairs.{aloneCount, alone-most, joining-settles, round-joining, round-lone}
 use Rattle.tidying.proofs.Tidying.{untouched, tidied-already, tidied-on}
 use Rattle.rounds.specs.Room.{Room, roomOf, lowestOf}
 use Rattle.rounds.specs.Joined.{Joined, joinIn, Joins}
@@ -133,10 +131,8 @@ module _ (N m : ℕ) (t : Channels) (r : TidiedPlaces) (next : Next) (low : m �
     -- the round can be carried out
     pub can-go-on : 0 < N → CanGoOn N next r
     can-go-on nodes =
-        let none : Standing × Standing = (standingAt (r .channels) 0, standingAt (r .channels) 0) in
-        let l = ltb-true _ _ can in
-        let pair = all-at (Pair m (r .channels)) none (pairsOf (nonsharing m (r .channels))) (pairs-stand m (r .channels) within) (passedOver N m (r .channels)) l in
-        let passes = found-passes (joinable N m (r .channels)) none (pairsOf (nonsharing m (r .channels))) l in
+        let pair = round-pair N m (r .channels) within can in
+        let passes = round-joinable N m (r .channels) within can in
         record {
           pair = rw (finds .room, finds .first some, finds .second some) (record {
             nodes = nodes;

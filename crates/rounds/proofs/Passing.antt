@@ -26,7 +26,7 @@ use Rattle.channels.proofs.Nonsharing.{Stands, Lower, nonsharing-ordered, stand
 use Rattle.steps.specs.Steps.{standsRight, lowestIn}
 use Rattle.tidying.specs.Round.{joinable}
 use Rattle.tidying.proofs.Settled.{Settles}
-use Rattle.tidying.proofs.Pairs.{Pair, pairs-stand}
+use Rattle.tidying.proofs.Choice.{Pair, pairs-stand}
 use Rattle.rounds.specs.Room.{Room, roomOf, lowestOf, gains}
 use Rattle.rounds.specs.Search.{joinableIn, firstHit, Skipping}
 use Rattle.rounds.specs.Next.{Lone, PassedBy}

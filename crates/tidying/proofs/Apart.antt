@@ -1,8 +1,7 @@
 -- Where no pair can be joined, said without the rounds' own test: two circuits alone below the limit can share neither in the direction of a
 -- place where one of them stands nor in that of an unlit place below the limit. Assumes nothing.
-use Prim.Native.Nat.{ℕ, _+_, _≤_, _<_}
+use Prim.Native.Nat.{ℕ, _≤_, _<_}
 use mathlib.Core.Path.{_≡_, refl, sym, _∙_}
-use mathlib.Core.Logic.{_≢_}
 use mathlib.Core.Bool.{Bool, true, false, _&&_, _||_, true≢false}
 use native.Mathlib.Omega.{arith}
 use lib.Dec.{ltb}
@@ -11,9 +10,9 @@ use borrow.Author.Tests.{lt-ltb}
 use Rattle.basis.proofs.Bools.{and-both, or-false}
 use Rattle.limits.specs.Limits.{placeCount}
 use Rattle.lightpath.specs.Place.{directionOf}
-use Rattle.lightpath.specs.Circuit.{hops, adjacent, canShare, shareDirection}
+use Rattle.lightpath.specs.Circuit.{adjacent, canShare, shareDirection}
 use Rattle.lightpath.specs.declared.Direction.{Direction}
-use Rattle.lightpath.proofs.Share.{can-adjacent, can-both, can-only}
+use Rattle.lightpath.proofs.Share.{can-adjacent, can-other}
 use Rattle.slots.specs.Slot.{isUnlit}
 use Rattle.slots.specs.declared.Slot.the-variants.{Unlit as unlit}
 use Rattle.channels.specs.Channels.{Channels, at}
@@ -62,10 +61,6 @@ module _ (N m : ℕ) (t : Channels) (within : m ≤ length t) (low : m ≤ place
           adj : adjacent (a .circuit) (b .circuit) ≡ true
           adj = can-adjacent N (directionOf p) (a .circuit) (b .circuit) e
 
-          -- their hops do not total N, or they could share where the first stands
-          apart : hops N (a .circuit) + hops N (b .circuit) ≢ N
-          apart total = true≢false (sym (can-both N (directionOf (a .place)) (a .circuit) (b .circuit) adj total) ∙ first-apart)
-
           found : unlitFor N m t a b < m
           found =
-              lowest-found isUnlit m t d p i (can-only N (directionOf p) (a .circuit) (b .circuit) apart e) (rw dark refl)
+              lowest-found isUnlit m t d p i (can-other N (directionOf (a .place)) (directionOf p) (a .circuit) (b .circuit) first-apart e) (rw dark refl)

@@ -1,5 +1,5 @@
--- The pairs that a round looks at, and what joining one does to the places: two circuits fewer are alone, and one place fewer is lit. No
--- ring rule is asked for. Assumes nothing.
+-- What joining a pair does to the places: two circuits fewer are alone, and one place fewer is lit. No ring rule is asked for. Assumes
+-- nothing.
 use Prim.Native.Nat.{ℕ, _+_, _≤_, _<_}
 use mathlib.Core.Path.{_≡_, refl, sym, ap, _∙_}
 use mathlib.Core.Logic.{_≢_}
@@ -11,11 +11,8 @@ use lib.ListN.{length}
 use borrow.Author.Tests.{ltb-true}
 use Rattle.basis.specs.Choice.{pick, bit}
 use Rattle.basis.specs.Count.{weigh, All}
-use Rattle.basis.specs.Search.{pairsOf}
 use Rattle.basis.proofs.Bools.{and-left, and-right}
-use Rattle.basis.proofs.Search.{all-at, found-passes}
 use Rattle.basis.proofs.Weigh.{bit-most, weigh-most}
-use Rattle.basis.proofs.Pairs.{pairs-all}
 use Rattle.limits.specs.Limits.{placeCount}
 use Rattle.lightpath.specs.Place.{directionOf}
 use Rattle.lightpath.specs.Circuit.{adjacent, canShare, shareDirection}
@@ -27,16 +24,16 @@ use Rattle.slots.specs.declared.Slot.the-variants.{Unlit as unlit, Alone as alo
 use Rattle.slots.proofs.Contents.{is-unlit}
 use Rattle.channels.specs.Channels.{Channels, at, slots, litPlaces}
 use Rattle.channels.specs.Change.{puts}
-use Rattle.channels.specs.Nonsharing.{nonsharing, standingAt}
 use Rattle.channels.specs.declared.Change.{Change}
 use Rattle.channels.specs.declared.Standing.{Standing}
 use Rattle.channels.proofs.Places.{slots-length}
-use Rattle.channels.proofs.Nonsharing.{Stands, Lower, nonsharing-stand, nonsharing-ordered}
+use Rattle.channels.proofs.Nonsharing.{Stands}
 use Rattle.channels.proofs.Puts.{Apart, Within, puts-sum}
 use Rattle.steps.specs.Steps.{nowhere, standsRight}
 use Rattle.steps.proofs.Searches.{lowest-passes, lowest-direction}
-use Rattle.tidying.specs.Round.{Round, toMember, toUnlit, unlitFor, joinable, joinPair, passedOver, canRound, roundPair, roundOf, rounded}
+use Rattle.tidying.specs.Round.{Round, toMember, toUnlit, unlitFor, joinable, joinPair, canRound, roundPair, roundOf, rounded}
 use Rattle.tidying.proofs.Settled.{isShared, Settles, settles-puts}
+use Rattle.tidying.proofs.Choice.{Pair, round-pair, round-joinable}
 
 -- how many circuits are alone at their places
 abbrev pub aloneCount : Channels → ℕ
@@ -53,15 +50,6 @@ together-is P a b h k = go (ltb (a .number) (b .number))
     go : (o : Bool) → P (pick o (shared a b) (shared b a))
     go true = h
     go false = k
-
--- a pair of nonsharing circuits below m, the lower place first
-abbrev pub Pair : ℕ → Channels → Standing × Standing → Type 0
-Pair m t pair = Stands m t (pair .0) × Stands m t (pair .1) × Lower (pair .0) (pair .1)
-
-module _ (m : ℕ) (t : Channels) (within : m ≤ length t) where
-  -- each pair listed is one
-  pub pairs-stand : All (Pair m t) (pairsOf (nonsharing m t))
-  pairs-stand = pairs-all (Stands m t) Lower (nonsharing m t) (nonsharing-stand m t within) (nonsharing-ordered m t within)
 
 -- changes that join two nonsharing circuits: no place is changed twice, no two share at one of them before, none is alone there after
 pub record Joining (t : Channels) (chs : List Change) : Type 0 where
@@ -142,11 +130,7 @@ module _ (N m : ℕ) (t : Channels) (within : m ≤ length t) (P : Round → Typ
 
   -- the pair that a round takes is one
   pub round-by : canRound N m t ≡ true → P (roundOf N m t)
-  round-by can =
-      let l = ltb-true _ _ can in
-      let none : Standing × Standing = (standingAt t 0, standingAt t 0) in
-      pair-by (roundPair N m t .0) (roundPair N m t .1) (all-at (Pair m t) none (pairsOf (nonsharing m t)) (pairs-stand m t within) (passedOver N m t) l)
-      (found-passes (joinable N m t) none (pairsOf (nonsharing m t)) l)
+  round-by can = pair-by (roundPair N m t .0) (roundPair N m t .1) (round-pair N m t within can) (round-joinable N m t within can)
 
 -- so a round joins two nonsharing circuits
 pub round-joining : (N m : ℕ) (t : Channels) → m ≤ length t → canRound N m t ≡ true → Joining t (roundOf N m t .changes)
