@@ -1,6 +1,6 @@
 -- A script taken in byte by byte prints what its lines print. Assumes nothing.
 use Prim.Native.Nat.{ℕ, zero, suc, _<_}
-use mathlib.Core.Path.{_≡_, refl, ap, _∙_}
+use mathlib.Core.Path.{_≡_, refl, sym, ap, _∙_}
 use mathlib.Core.Bool.{Bool, true, false}
 use mathlib.Core.List.{List, [], _∷_, _++_, append-assoc, append-nil}
 use native.Mathlib.Omega.{arith}
@@ -41,7 +41,7 @@ holding d w = record { desk = d; held = take mostHeld w }
 last-printed : (d : Desk) (w : List ℕ) → endText (holding d w) ≡ linesText d (lastLine w)
 unfolding linesText
 last-printed d [] = refl
-last-printed d (x ∷ w) = rw (ne-eqb (length (take mostHeld (x ∷ w))) 0 (λ e. omega arith), run-cut d (x ∷ w), append-nil)
+last-printed d (x ∷ w) = rw (ne-eqb (length (take mostHeld (x ∷ w))) 0 (λ e. omega arith), run-cut d (x ∷ w)) (sym (append-nil (runLine d (x ∷ w) .text)))
 
 -- what the rest of an input prints, and its end
 unfoldable restText : Script → List ℕ → List ℕ
