@@ -1,0 +1,2 @@
+-- What a host asks of a roster by node.
+pub mod Lookups

@@ -1,0 +1,95 @@
+-- 02, E7: "Lookups by node should be short." What a host asks of a roster by node: the circuits that the node sends, and one of them by its
+-- number. Assumes nothing. What `row` and `circuit_of` promise, and those of a roster that is known to stand.
+use Prim.Native.Nat.{ℕ, _-_}
+use mathlib.Core.Bool.{not}
+use mathlib.Core.List.{List, [], _∷_, _++_}
+use lib.Dec.{eqb}
+use lib.ListN.{length, take, replicate}
+use Rattle.basis.specs.Choice.{pick}
+use Rattle.limits.specs.Limits.{mostPorts}
+use Rattle.lightpath.specs.Circuit.{onRing, blankCircuit}
+use Rattle.channels.specs.declared.Standing.{Standing}
+use Rattle.refusals.specs.Refusal.{numberOf, Cause, _if_, judged}
+use Rattle.refusals.specs.Answer.{Answer, refusal, done, Reason, _when_}
+use Rattle.refusals.specs.declared.Refusal.the-variants.{OffRing, BrokenRule}
+use Rattle.refusals.specs.declared.Verdict.{Verdict}
+use Rattle.refusals.specs.declared.Verdict.the-variants.{Granted as granted, Refused as refused}
+use Rattle.roster.specs.Roster.{entries, tableOf, stands}
+use Rattle.roster.specs.declared.Roster.{Roster}
+use Rattle.rows.specs.Row.{rowOf}
+pub use Rattle.roster_rows.specs.declared.Sent.{Sent}
+pub use Rattle.roster_rows.specs.declared.Lookup.{Lookup}
+pub use Rattle.roster_rows.specs.declared.Lookup.the-variants.{Found as found, Nothing as nothing, Refused as notAsked}
+
+-- the circuits that a node sends, of the table that the roster is of: "by rising number", each with its place
+abbrev pub sentBy : Roster → ℕ → List Standing
+sentBy r node = rowOf node (entries (tableOf r .channels))
+
+-- "An arrangement that no old table gives is met by 22"; then "a node off the ring", by 10
+abbrev pub lookupCauses : Roster → ℕ → List Cause
+lookupCauses r node = (BrokenRule if not (stands r)) ∷ (OffRing if not (onRing (tableOf r .nodes) node)) ∷ []
+
+-- some circuits in the room of a row, those after them blank, all zeros
+abbrev pub blank : Standing
+blank = record { place = 0; circuit = blankCircuit }
+
+abbrev pub inRoom : List Standing → List Standing
+inRoom ms = ms ++ replicate (mostPorts - length ms) blank
+
+abbrev pub sentOf : List Standing → Verdict → Sent
+sentOf ms v = record { list = inRoom ms; count = length ms; verdict = v }
+
+-- the row of a node; that of a refused lookup is blank
+abbrev pub rowBy : Roster → ℕ → Verdict → Sent
+rowBy r node granted = sentOf (sentBy r node) granted
+rowBy r node (refused x) = sentOf [] (refused x)
+
+unfoldable pub rowOfRoster : Roster → ℕ → Sent
+rowOfRoster r node = rowBy r node (judged (lookupCauses r node))
+
+-- of some circuits the one of a number, or that there is none
+abbrev pub numbered : ℕ → List Standing → Lookup
+numbered n [] = nothing
+numbered n (m ∷ ms) = pick (eqb (m .circuit .number) n) (found m) (numbered n ms)
+
+-- the circuit of a number in the row of a node
+abbrev pub circuitBy : Roster → ℕ → ℕ → Verdict → Lookup
+circuitBy r node n granted = numbered n (sentBy r node)
+circuitBy r node n (refused x) = notAsked x
+
+unfoldable pub circuitOfRoster : Roster → ℕ → ℕ → Lookup
+circuitOfRoster r node n = circuitBy r node n (judged (lookupCauses r node))
+
+-- the reasons of a refusal by number
+abbrev pub lookupReasons : Roster → ℕ → List Reason
+lookupReasons r node = (22 when not (stands r)) ∷ (10 when not (onRing (tableOf r .nodes) node)) ∷ []
+
+-- the values of a circuit: "circuit NUMBER to DESTINATION place PLACE"
+abbrev pub circuitValues : Standing → List ℕ
+circuitValues m = m .circuit .number ∷ m .circuit .destination ∷ m .place ∷ []
+
+-- of a row: "circuits COUNT", then those of each circuit
+abbrev pub eachValues : List Standing → List ℕ
+eachValues [] = []
+eachValues (m ∷ ms) = circuitValues m ++ eachValues ms
+
+abbrev pub rowValues : List Standing → List ℕ
+rowValues ms = length ms ∷ eachValues ms
+
+-- of the one of a number, and none where there is none
+abbrev pub numberValues : ℕ → List Standing → List ℕ
+numberValues n [] = []
+numberValues n (m ∷ ms) = pick (eqb (m .circuit .number) n) (circuitValues m) (numberValues n ms)
+
+-- the answers in numbers and values
+abbrev pub answeredBy : List ℕ → Verdict → Answer
+answeredBy vs granted = done vs
+answeredBy vs (refused x) = refusal (numberOf x)
+
+abbrev pub rowAnswer : Sent → Answer
+rowAnswer s = answeredBy (rowValues (take (s .count) (s .list))) (s .verdict)
+
+abbrev pub lookupAnswer : Lookup → Answer
+lookupAnswer (found m) = done (circuitValues m)
+lookupAnswer nothing = done []
+lookupAnswer (notAsked x) = refusal (numberOf x)
