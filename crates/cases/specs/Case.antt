@@ -28,6 +28,7 @@ use Rattle.ring.specs.Answer.{openingAnswer, tidyingAnswer}
 use Rattle.roster.specs.declared.Roster.{Roster}
 use Rattle.roster.specs.Roster.{builtOf, tableBuilt}
 use Rattle.roster_calls.specs.Calls.{openRoster, openRosterLent, closeRoster, tidyRoster, tidyRosterLent}
+use Rattle.roster_rows.specs.Lookups.{rowOfRoster, rowAnswer, circuitOfRoster, lookupAnswer}
 use Rattle.form.specs.Form.{formOf}
 use Rattle.form.specs.Reading.{readOf}
 use Rattle.load.specs.Load.{linkLoad}
@@ -70,6 +71,9 @@ pub data Question : Type 0 where
   openingOn : Roster → Circuit → Question
   closingOn : Roster → ℕ → Question
   tidyingOn : Roster → Question
+  -- the circuits that a node sends, asked of a roster; and the one of a number among them
+  sending : Roster → ℕ → Question
+  sendingNumbered : Roster → ℕ → ℕ → Question
 
 -- what it expects
 pub data Answer : Type 0 where
@@ -83,7 +87,7 @@ pub data Answer : Type 0 where
   replied : Reply → List Move → RingTable → Answer
   -- the length of a form, and byte 0 of its map
   saved : ℕ → ℕ → Answer
-  -- the number and values of a frequency or of a wavelength
+  -- the number and values of a frequency, of a wavelength or of a lookup by node
   told : Reply → Answer
   -- the number of a report, and the bytes after it
   reported : Reply → List ℕ → Answer
@@ -163,6 +167,8 @@ answerTo (openingOn r c) = arrangedAs (openingAnswer (openRoster r c blanks .ans
 answerTo (closingOn r n) = arrangedAs (verdictAnswer (closeRoster r n .verdict)) [] (closeRoster r n .roster)
 answerTo (tidyingOn r) =
     let lent = replicate 128 blank in arrangedAs (tidyingAnswer (tidyRoster r lent .answer)) (tidyRosterLent r lent) (tidyRoster r lent .roster)
+answerTo (sending r i) = told (rowAnswer (rowOfRoster r i))
+answerTo (sendingNumbered r i n) = told (lookupAnswer (circuitOfRoster r i n))
 answerTo (saving t) = saved (length (formOf t)) (getD (formOf t) (mapStart t) 0)
 
 -- a case holds when that is what it expects

@@ -17,7 +17,7 @@ use Rattle.ring.specs.Table.{blankTable}
 use Rattle.roster.specs.declared.Roster.{Roster}
 use Rattle.roster.specs.Roster.{blankRoster}
 use Rattle.form.specs.Form.{formOf}
-use Rattle.cases.specs.Case.{pair, pairBeforeE1, ports, making, opening, closing, tidying, saving, reading, tuning, tracing, reporting, stepping, arranging, unarranging, openingOn, closingOn, tidyingOn, Question, shares, notAdjacent, dimensions, saved, told, reported, stepped, arrangedAs, done, refused, opened, notOpened, tidied, notTidied, Answer, Case, _gives_}
+use Rattle.cases.specs.Case.{pair, pairBeforeE1, ports, making, opening, closing, tidying, saving, reading, tuning, tracing, reporting, stepping, arranging, unarranging, openingOn, closingOn, tidyingOn, sending, sendingNumbered, Question, shares, notAdjacent, dimensions, saved, told, reported, stepped, arrangedAs, done, refused, opened, notOpened, tidied, notTidied, Answer, Case, _gives_}
 
 -- a circuit without a remark and without an account: number, source, destination
 abbrev circuit : ℕ → ℕ → ℕ → Circuit
@@ -425,6 +425,15 @@ rosters =
     ∷ tidyingOn rows
     gives arrangedAs (record { number = 0; values = 1 ∷ 1 ∷ [] }) (move 6 4 2 ∷ replicate 127 blank)
     (otherRoster 5 (key 1 6 ∷ key 2 5 ∷ key 2 7 ∷ key 2 8 ∷ key 3 9 ∷ []) (rest 2 2 ∷ rest 3 2 ∷ rest 3 0 ∷ rest 1 3 ∷ rest 1 0 ∷ []))
+    -- what node 2 sends: how many, and of each the number, the destination and the place; 7 among them; 6, which another node sends
+    ∷ sending rows 2 gives told (record { number = 0; values = 3 ∷ 5 ∷ 3 ∷ 2 ∷ 7 ∷ 3 ∷ 0 ∷ 8 ∷ 1 ∷ 3 ∷ [] })
+    ∷ sendingNumbered rows 2 7 gives told (record { number = 0; values = 7 ∷ 3 ∷ 0 ∷ [] })
+    ∷ sendingNumbered rows 2 6 gives told (record { number = 0; values = [] })
+    -- nodes off the ring; and 22 before that
+    ∷ sending rows 0 gives told (refusal 10)
+    ∷ sendingNumbered rows 4 7 gives told (refusal 10)
+    ∷ sending backwards 4 gives told (refusal 22)
+    ∷ sendingNumbered backwards 4 7 gives told (refusal 22)
     ∷ []
 
 -- eight nodes with a port each: six places

@@ -1,7 +1,7 @@
 -- What each lookup answers: 22, 10, the row of the node, and the circuit of a number in it. Assumes nothing.
 use Prim.Native.Nat.{ℕ, zero, suc, _-_, _*_, _^_, _≤_, _<_}
-use mathlib.Core.Path.{_≡_, refl, sym, ap, subst, _∙_}
-use mathlib.Core.Bool.{Bool, true, false, not, _&&_}
+use mathlib.Core.Path.{_≡_, refl, sym, ap, _∙_}
+use mathlib.Core.Bool.{Bool, true, false, _&&_}
 use mathlib.Core.List.{List, [], _∷_}
 use native.Mathlib.Omega.{arith}
 use lib.Dec.{eqb}
@@ -11,15 +11,14 @@ use mir.Syntax.{w64}
 use mir.Val.{Fits}
 use borrow.Author.Tests.{not-true, not-false}
 use Rattle.basis.specs.Choice.{pick}
-use Rattle.basis.specs.Count.{All}
 use Rattle.basis.specs.Search.{firstPlace}
 use Rattle.basis.proofs.Bools.{all-map}
 use Rattle.basis.proofs.Branch.{said}
 use Rattle.limits.specs.Limits.{mostPorts, mostCircuits}
 use Rattle.lightpath.specs.Circuit.{onRing}
-use Rattle.channels.specs.Channels.{Channels, circuits}
+use Rattle.channels.specs.Channels.{Channels}
 use Rattle.channels.specs.declared.Standing.{Standing}
-use Rattle.refusals.specs.Answer.{answerBy}
+use Rattle.refusals.specs.Answer.{done, answerBy}
 use Rattle.refusals.specs.declared.Refusal.the-variants.{OffRing, BrokenRule}
 use Rattle.refusals.specs.declared.Verdict.the-variants.{Granted as granted, Refused as refused}
 use Rattle.refusals.proofs.Reasons.{in-numbers}
@@ -37,7 +36,7 @@ use Rattle.rows.specs.declared.Row.{Row}
 use Rattle.rows.proofs.Rows.{row-sends, position-entry}
 use Rattle.rows.proofs.Held.{sends-most, held-rising, held-order, held-keyed, held-rested, keys-long, rests-same, held-sends, held-row, held-room}
 use Rattle.roster_calls.proofs.Standing.{roster-holds}
-use Rattle.roster_rows.specs.Lookups.{Sent, Lookup, found, nothing, notAsked, sentBy, lookupCauses, blank, inRoom, sentOf, rowBy, rowOfRoster, numbered, circuitBy, circuitOfRoster, lookupReasons, rowValues, numberValues, rowAnswer, lookupAnswer}
+use Rattle.roster_rows.specs.Lookups.{Sent, Lookup, found, nothing, notAsked, sentBy, lookupCauses, blank, inRoom, sentOf, rowBy, rowOfRoster, numbered, circuitBy, circuitOfRoster, lookupReasons, circuitValues, rowValues, numberValues, rowAnswer, lookupAnswer}
 
 -- an entry of keys and rests is of the two at its position
 get-entry : (i : ℕ) (keys rests : List ℕ) (d : Standing) → i < length keys → i < length rests
@@ -75,8 +74,17 @@ numbered-nowhere node n (m ∷ es) h = go (eqb (m .circuit .source) node) (eqb (
     go true false e h rest = rw e (rest (omega arith))
     go false o e h rest = rest (omega arith)
 
--- ---- a roster that stands
+-- its values are those of that circuit
+numbered-values : (n : ℕ) (ms : List Standing) → lookupAnswer (numbered n ms) ≡ done (numberValues n ms)
+numbered-values n [] = refl
+numbered-values n (m ∷ ms) = go (eqb (m .circuit .number) n) (numbered-values n ms)
+  where
+    go : (o : Bool) → lookupAnswer (numbered n ms) ≡ done (numberValues n ms)
+        → lookupAnswer (pick o (found m) (numbered n ms)) ≡ done (pick o (circuitValues m) (numberValues n ms))
+    go true e = refl
+    go false e = e
 
+-- A roster that stands: the row of a node in it, and the position of a number.
 module _ (r : Roster) (s : stands r ≡ true) where
   abbrev places : Channels
   places = placesOf (r .keys) (r .rests) (r .heading .count)
@@ -173,8 +181,7 @@ module _ (r : Roster) (s : stands r ≡ true) where
               ∙ get-entry at (take count (r .keys)) (take count (r .rests)) blank (omega (arith, long)) (omega (arith, long))
               ∙ rw (getD-take count (r .keys) at 0 h, getD-take count (r .rests) at 0 h)
 
--- ---- the answers
-
+-- The answers.
 module _ (r : Roster) (node : ℕ) where
   -- what a lookup of a row is to be, and of a number in it
   abbrev pub RowAnswered : Sent → Type 0
@@ -193,23 +200,13 @@ module _ (r : Roster) (node : ℕ) where
           in-numbers (λ v. rowAnswer (rowBy r node v)) (rowValues (sentBy r node)) (rw (take-append-seam (sentBy r node))) (λ x. refl)
           (lookupCauses r node) (lookupReasons r node) (refl, refl, (refl, refl, tt))
 
-  -- the values of the circuit of a number
-  found-values : (n : ℕ) (ms : List Standing) → lookupAnswer (numbered n ms) ≡ record { number = 0; values = numberValues n ms }
-  found-values n [] = refl
-  found-values n (m ∷ ms) = go (eqb (m .circuit .number) n) (found-values n ms)
-    where
-      go : (o : Bool) → lookupAnswer (numbered n ms) ≡ record { number = 0; values = numberValues n ms }
-          → lookupAnswer (pick o (found m) (numbered n ms)) ≡ record { number = 0; values = pick o (m .circuit .number ∷ m .circuit .destination ∷ m .place ∷ []) (numberValues n ms) }
-      go true e = refl
-      go false e = e
-
   circuit-is : (n : ℕ) (a : Lookup) → a ≡ circuitOfRoster r node n → CircuitAnswered n a
   unfolding circuitOfRoster
   circuit-is n a e = (e, ap lookupAnswer e ∙ numbers)
     where
       numbers : lookupAnswer (circuitOfRoster r node n) ≡ answerBy (lookupReasons r node) (numberValues n (sentBy r node))
       numbers =
-          in-numbers (λ v. lookupAnswer (circuitBy r node n v)) (numberValues n (sentBy r node)) (found-values n (sentBy r node)) (λ x. refl)
+          in-numbers (λ v. lookupAnswer (circuitBy r node n v)) (numberValues n (sentBy r node)) (numbered-values n (sentBy r node)) (λ x. refl)
           (lookupCauses r node) (lookupReasons r node) (refl, refl, (refl, refl, tt))
 
   -- a roster that does not stand is met by 22
