@@ -12,8 +12,8 @@ ghost use Rattle.roster_calls.specs.Calls.{openRoster, openRosterLent, o
 ghost use Rattle.roster_calls.specs.Demand3.{Demand3HeldLent};
 use crate::Opened;
 use crate::Tidied;
-use crate::joining::decide_tidy;
 use crate::opening::decide;
+use crate::tidying::decide_tidy;
 use lightpath::Circuit;
 use moves::Move;
 use roster::Roster;

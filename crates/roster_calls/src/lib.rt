@@ -2,15 +2,13 @@
 // beside its answer; a refusal gives it back as it came.
 
 mod closing;
-mod joining;
 mod lent;
 mod made;
 mod opening;
+mod tidying;
 
 pub use closing::close;
 pub use closing::close_valid;
-pub use joining::decide_tidy;
-pub use joining::decide_tidy_valid;
 pub use lent::open;
 pub use lent::tidy;
 pub use made::make;
@@ -21,6 +19,8 @@ pub use opening::decide_valid;
 use ring::Opening;
 use ring::Tidying;
 use roster::Roster;
+pub use tidying::decide_tidy;
+pub use tidying::decide_tidy_valid;
 
 // The roster after an opening, beside the answer.
 pub struct Opened {

@@ -29,10 +29,10 @@ use Rattle.roster_calls.proofs.Tidied as O
 use Rattle.roster_calls.proofs.Tidied.Laws as O′
 use Rattle.roster_calls.proofs.TidyDecided as D
 use Rattle.roster_calls.proofs.TidyDecided.Laws as D′
-use Rattle.roster_calls.proofs.joining.decide_tidy as decide
-use Rattle.roster_calls.proofs.joining.decide_tidy.Symbol as decide-def
-use Rattle.roster_calls.proofs.joining.decide_tidy.Symbol.{name as #roster·decide-tidy}
-use Rattle.roster_calls.proofs.joining.decide_tidy.Met as decide-thm
+use Rattle.roster_calls.proofs.tidying.decide_tidy as decide
+use Rattle.roster_calls.proofs.tidying.decide_tidy.Symbol as decide-def
+use Rattle.roster_calls.proofs.tidying.decide_tidy.Symbol.{name as #roster·decide-tidy}
+use Rattle.roster_calls.proofs.tidying.decide_tidy.Met as decide-thm
 use Rattle.roster_calls.proofs.lent.tidy.Key.{name as #roster·tidy}
 use Rattle.roster_calls.proofs.lent.tidy as tidy
 use Rattle.roster_calls.proofs.lent.tidy.Statement as stated
@@ -185,5 +185,5 @@ tidy-spec 𝓤 H 𝓜 𝓖 𝓡 =
     entered 𝓤 H (tripleOf 𝓤 H (𝓖 .A) tidy.signature (tidy.spec 𝓤 H (𝓖 .A) (𝓜 .mem) (𝓡 .run)))
     (tables 𝓤 H 𝓜 𝓡 code.env .C) (tables 𝓤 H 𝓜 𝓡 code.env .Λ) #roster·tidy code.function (code.unfolded 𝓤 H 𝓜 𝓡)
     (tidy-meets 𝓤 H (𝓖 .A) (givenOf 𝓤 H 𝓜 𝓖) (𝓜 .mem) (𝓡 .run) (tablesOf 𝓤 H 𝓜 (tables 𝓤 H 𝓜 𝓡 code.env))
-    (cited 𝓤 H (Decide 𝓤 H (𝓖 .A) (𝓜 .mem) (𝓡 .run)) 𝓜 𝓡 code.env #roster·decide-tidy decide-def.routine code.calls-roster-calls·joining·decide-tidy (decide-thm.met 𝓤 H 𝓜 𝓖 𝓡))
+    (cited 𝓤 H (Decide 𝓤 H (𝓖 .A) (𝓜 .mem) (𝓡 .run)) 𝓜 𝓡 code.env #roster·decide-tidy decide-def.routine code.calls-roster-calls·tidying·decide-tidy (decide-thm.met 𝓤 H 𝓜 𝓖 𝓡))
     (cited 𝓤 H (Write 𝓤 H (𝓖 .A) (𝓜 .mem) (𝓡 .run)) 𝓜 𝓡 code.env #moves·write-list write-list-def.routine code.calls-moves·write-list (write-list-thm.met 𝓤 H 𝓜 𝓖 𝓡)))

@@ -1,8 +1,8 @@
 -- `roster_calls::decide_tidy_valid` meets its contract. Assumes nothing.
 use borrow.Author.Needs.{needs}
 use Rattle.roster_calls.proofs.Tidies.{tidying, tidies-valid}
-use Rattle.roster_calls.proofs.joining.decide_tidy_valid.Statement.{statement}
-use Rattle.roster_calls.proofs.joining.decide_tidy_valid.Tie as tie
+use Rattle.roster_calls.proofs.tidying.decide_tidy_valid.Statement.{statement}
+use Rattle.roster_calls.proofs.tidying.decide_tidy_valid.Tie as tie
 
 table-valid-requires : tie.Need-table-valid-requires
 table-valid-requires c κs = search (needs, tidying)

@@ -1,8 +1,8 @@
 -- `roster_calls::decide_tidy` meets its contract. Assumes nothing.
 use borrow.Author.Needs.{needs}
 use Rattle.roster_calls.proofs.Tidies.{tidying, tidies-refused}
-use Rattle.roster_calls.proofs.joining.decide_tidy.Statement.{statement}
-use Rattle.roster_calls.proofs.joining.decide_tidy.Tie as tie
+use Rattle.roster_calls.proofs.tidying.decide_tidy.Statement.{statement}
+use Rattle.roster_calls.proofs.tidying.decide_tidy.Tie as tie
 
 stands-requires : tie.Need-stands-requires
 stands-requires c κs = search needs
