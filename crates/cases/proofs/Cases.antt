@@ -14,7 +14,6 @@ use Rattle.ring.specs.Closing.{closeOf}
 use Rattle.ring.specs.Tidying.{decideTidyOf}
 use Rattle.entries.specs.Entry.{keyOf, restOf, entryOf}
 use Rattle.roster.specs.Roster.{entries, arranged, tableOf, stands, builtOf, tableBuilt}
-use Rattle.roster_calls.specs.Calls.{decideRoster, closeRoster, decideTidyRoster}
 use Rattle.roster_rows.specs.Lookups.{rowOfRoster, circuitOfRoster}
 use Rattle.form.specs.Bytes.{highFirst, numberFrom}
 use Rattle.form.specs.Form.{mapBytes, fieldMap, optionalBytes, circuitBytes, recordBytes, recordsBytes, formOf}
@@ -33,7 +32,7 @@ each (c ∷ cs) e = ((cc), each cs (cc))
 
 -- the answers to the table's, computed
 computed : map (λ c. answerTo (c .asked)) cases ≡ map (λ c. c .expected) cases
-unfolding ahead word noneLitFrom makeOf decideOf closeOf decideTidyOf tidyWithin unlitPlace planOf written writtenAll formOf mapBytes recordsBytes recordBytes fieldMap circuitBytes highFirst optionalBytes bitOf numberFrom readOf readTable checked readRecordsBy readPlaceBy readRecord readSecond mapHolds readCircuit readOptional readMap mapBit readPorts tunedOf carriedOf frequencyAt wavelengthAt users lightpathsBelow loadsTo reportOf keyOf restOf entryOf entries arranged tableOf stands builtOf tableBuilt decideRoster closeRoster decideTidyRoster rowOfRoster circuitOfRoster
+unfolding ahead word noneLitFrom makeOf decideOf closeOf decideTidyOf tidyWithin unlitPlace planOf written writtenAll formOf mapBytes recordsBytes recordBytes fieldMap circuitBytes highFirst optionalBytes bitOf numberFrom readOf readTable checked readRecordsBy readPlaceBy readRecord readSecond mapHolds readCircuit readOptional readMap mapBit readPorts tunedOf carriedOf frequencyAt wavelengthAt users lightpathsBelow loadsTo reportOf keyOf restOf entryOf entries arranged tableOf stands builtOf tableBuilt rowOfRoster circuitOfRoster
 computed = refl
 
 -- so each of its cases holds

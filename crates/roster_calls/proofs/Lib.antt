@@ -1,5 +1,6 @@
--- The laws of the calls: a roster that stands and its table, then each call.
+-- The laws of the calls: a roster that stands and its table, a call on a table lifted to a roster, then each call.
 pub mod Standing
+pub mod Lifted
 pub mod Opens
 pub mod Closes
 pub mod Makes

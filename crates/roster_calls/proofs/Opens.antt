@@ -1,12 +1,9 @@
 -- An opening on a roster is that on its table, and meets demand 3. Assumes nothing.
 use Prim.Native.Nat.{ℕ}
-use mathlib.Core.Path.{_≡_, refl, sym, ap, subst, _∙_}
-use mathlib.Core.Logic.{_↔_}
-use mathlib.Core.Bool.{Bool, true, false}
+use mathlib.Core.Path.{_≡_, refl, ap, _∙_}
+use mathlib.Core.Bool.{true, false}
 use mathlib.Core.List.{List}
-use native.Mathlib.Omega.{arith}
 use lib.ListN.{length}
-use Rattle.basis.specs.Choice.{pick, bit}
 use Rattle.lightpath.specs.declared.Circuit.{Circuit}
 use Rattle.moves.specs.Records.{none, listed}
 use Rattle.moves.specs.Lent.{written}
@@ -14,12 +11,11 @@ use Rattle.moves.specs.declared.Move.{Move}
 use Rattle.moves.specs.declared.Moves.{Moves}
 use Rattle.moves.proofs.Written.{written-none}
 use Rattle.refusals.specs.declared.Refusal.the-variants.{BrokenRule}
-use Rattle.refusals.specs.Answer.{someGiven, answerBy}
-use Rattle.ring.specs.Opening.{decideOf, openOf, lentAfter}
+use Rattle.refusals.specs.Answer.{answerBy}
+use Rattle.ring.specs.Opening.{decideOf, openOf}
 use Rattle.ring.specs.Answer.{openingAnswer}
 use Rattle.ring.specs.Numbers.{openValues}
 use Rattle.ring.specs.Demand3.{reasons, Demand3}
-use Rattle.ring.specs.declared.RingTable.{RingTable}
 use Rattle.ring.specs.declared.Opening.the-variants.{Refused as notOpened}
 use Rattle.ring.proofs.Numbers.{open-numbers}
 use Rattle.ring.proofs.Demand.{demand3, demand3-open}
@@ -29,9 +25,10 @@ use Rattle.roster.specs.Held.{tableIn}
 use Rattle.roster.proofs.Arranged.{stands-rules}
 use Rattle.roster_open.specs.InPlace.{OpensIn}
 use Rattle.roster_open.specs.declared.OpenedIn.{OpenedIn}
-use Rattle.roster_calls.specs.Calls.{Opened, Decided, decisionArranged, decideRoster, openRoster, openRosterLent, openRosterReasons, openedTable}
+use Rattle.roster_calls.specs.Calls.{Decided, decisionArranged, decideRoster, openRoster, openRosterLent, openRosterReasons, openedTable}
 use Rattle.roster_calls.specs.Demand3.{Demand3Held, Demand3HeldLent}
-use Rattle.roster_calls.proofs.Standing.{stands-same, held-arranged, held-stands, held-back}
+use Rattle.roster_calls.proofs.Standing.{stands-same, held-arranged, held-stands}
+use Rattle.roster_calls.proofs.Lifted.{lifted-given, lifted-by, lifted-numbers, lifted-valid, lifted-refused}
 
 -- the answer in numbers
 abbrev pub Numbered : Roster → Circuit → ℕ → Decided → Type 0
@@ -42,92 +39,52 @@ abbrev pub Keeps : Roster → Circuit → ℕ → Decided → Type 0
 Keeps r c n d = Demand3Held r c n (d .opened) (listed (d .moves))
 
 module _ (r : Roster) (c : Circuit) (n : ℕ) where
-  -- of a roster that stands it is the old opening, arranged
-  pub decide-stands : stands r ≡ true → decideRoster r c n ≡ decisionArranged (decideOf (tableOf r) c n)
-  unfolding decideRoster
-  decide-stands s = rw s
-
   -- for every roster
   pub roster-numbers : Numbered r c n (decideRoster r c n)
-  unfolding decideRoster
-  roster-numbers = go (stands r) refl
-    where
-      go : (b : Bool) → stands r ≡ b → Numbered r c n (decideRoster r c n)
-      go true s = rw s (rw (stands-rules r s) at (open-numbers (tableOf r) c n))
-      go false s = rw s
+  roster-numbers = lifted-numbers r _ _ (λ (d : Decided). openingAnswer (d .opened .answer)) (reasons (tableOf r) c n) (openValues (tableOf r) c) (open-numbers (tableOf r) c n) refl
 
   module _ (s : stands r ≡ true) where
-    -- rosters that stand are equal exactly where their tables are
-    equal-held : (o : Opened) → stands (o .roster) ≡ true → (tableOf (o .roster) ≡ tableOf r) ↔ (someGiven (reasons (tableOf r) c n) ≡ true)
-        → (o .roster ≡ r) ↔ (someGiven (reasons (tableOf r) c n) ≡ true)
-    equal-held o h e = (λ k. e .0 (ap tableOf k), λ g. stands-same r s (o .roster) h (e .1 g))
-
-    module _ (keys rests : List ℕ) (o : OpenedIn) (does : OpensIn (decideOf (tableIn (r .heading) (r .keys) (r .rests)) c n) keys rests o) where
-      -- what an opening in place leaves
-      abbrev left : Decided
-      left = record { opened = record { roster = record { keys = keys; rests = rests; heading = o .heading }; answer = o .answer }; moves = o .moves }
-
-      abbrev t′ : RingTable
-      t′ = decideOf (tableIn (r .heading) (r .keys) (r .rests)) c n .opened .table
-
-      left-is : left ≡ decideRoster r c n
-      unfolding tableOf
-      left-is =
-          let e = held-arranged t′ (o .heading) keys rests (does .after) in
-          (λ i. record { opened = record { roster = e i; answer = does .answer i }; moves = does .moves i }) ∙ sym (decide-stands s)
-
-      after-stands : stands (decideRoster r c n .opened .roster) ≡ true
-      unfolding tableOf
-      after-stands = rw (decide-stands s) (held-stands t′ (o .heading) keys rests (does .after))
-
-      after-table : tableOf (decideRoster r c n .opened .roster) ≡ decideOf (tableOf r) c n .opened .table
-      unfolding tableOf
-      after-table = rw (decide-stands s) (held-back t′ (o .heading) keys rests (does .after))
-
-      keeps : Keeps r c n (decideRoster r c n)
+    -- an opening that gives what the old one gives, and the table again, meets demand 3
+    module _ (d : Decided) (is : d ≡ decisionArranged (decideOf (tableOf r) c n)) (u : (stands (d .opened .roster) ≡ true) × (tableOf (d .opened .roster) ≡ decideOf (tableOf r) c n .opened .table)) where
+      keeps : Keeps r c n d
       keeps = record {
-        equal = equal-held (decideRoster r c n .opened) after-stands (demand .equal);
-        again = after-stands;
-        back = after-table;
+        equal = (λ k. demand .equal .0 (ap tableOf k), λ g. stands-same r s (d .opened .roster) (u .0) (demand .equal .1 g));
+        again = u .0;
+        back = u .1;
         demand = demand;
       }
         where
-          opened : openedTable (decideRoster r c n .opened) ≡ decideOf (tableOf r) c n .opened
-          opened = λ i. record { table = after-table i; answer = ap (λ (d : Decided). d .opened .answer) (decide-stands s) i }
+          opened : openedTable (d .opened) ≡ decideOf (tableOf r) c n .opened
+          opened = λ i. record { table = u .1 i; answer = is i .opened .answer }
 
-          demand : Demand3 (tableOf r) c n (openedTable (decideRoster r c n .opened)) (listed (decideRoster r c n .moves))
-          demand = rw (opened, ap (λ (d : Decided). d .moves) (decide-stands s)) (demand3 (tableOf r) c n (stands-rules r s))
+          demand : Demand3 (tableOf r) c n (openedTable (d .opened)) (listed (d .moves))
+          demand = rw (opened, ap (λ (d : Decided). d .moves) is) (demand3 (tableOf r) c n (stands-rules r s))
 
-      -- an opening on a copy of the lists is as defined
+    -- one on a copy of the lists is as defined
+    module _ (keys rests : List ℕ) (o : OpenedIn) (does : OpensIn (decideOf (tableIn (r .heading) (r .keys) (r .rests)) c n) keys rests o) where
+      abbrev left : Decided
+      left = record { opened = record { roster = record { keys = keys; rests = rests; heading = o .heading }; answer = o .answer }; moves = o .moves }
+
       pub opens-valid : (left ≡ decideRoster r c n) × (Numbered r c n left × ((stands (left .opened .roster) ≡ true) × Keeps r c n left))
-      opens-valid = (
-        left-is,
-        subst (λ (d : Decided). Numbered r c n d × ((stands (d .opened .roster) ≡ true) × Keeps r c n d)) (sym left-is) (roster-numbers, (after-stands, keeps)),
-      )
+      unfolding tableOf
+      opens-valid =
+          let e = held-arranged _ (o .heading) keys rests (does .after) in
+          let u = held-stands _ (o .heading) keys rests (does .after) in
+          let is : left ≡ decisionArranged (decideOf (tableOf r) c n) = λ i. record { opened = record { roster = e i; answer = does .answer i }; moves = does .moves i } in
+          lifted-valid r _ _ (Numbered r c n) roster-numbers left s is (u .0, keeps left is u)
 
   -- a roster that does not stand is met by 22
-  module _ (fails : stands r ≡ false) (ms : Moves) (e : ms ≡ none) where
+  module _ (f : stands r ≡ false) (ms : Moves) (e : ms ≡ none) where
     abbrev kept : Decided
     kept = record { opened = record { roster = r; answer = notOpened BrokenRule }; moves = ms }
 
-    kept-is : kept ≡ decideRoster r c n
-    unfolding decideRoster
-    kept-is = rw (fails, e)
-
     pub opens-refused : (kept ≡ decideRoster r c n) × (Numbered r c n kept × (stands r ≡ true → Keeps r c n kept))
-    opens-refused = (kept-is, (subst (Numbered r c n) (sym kept-is) roster-numbers, λ s. absurd (omega (arith, ap bit (sym fails ∙ s)))))
+    opens-refused = lifted-refused r _ _ (Numbered r c n) roster-numbers kept f (rw e)
 
 -- with a lent list: it is afterwards as the old opening leaves it
 module _ (r : Roster) (c : Circuit) (lent lent′ : List Move) (f : lent′ ≡ written lent (decideRoster r c (length lent) .moves)) where
   pub lent-is : lent′ ≡ openRosterLent r c lent
-  unfolding decideRoster
-  lent-is = f ∙ go (stands r)
-    where
-      go : (b : Bool)
-          → written lent (pick b (decisionArranged (decideOf (tableOf r) c (length lent))) (record { opened = record { roster = r; answer = notOpened BrokenRule }; moves = none }) .moves)
-          ≡ pick b (lentAfter (tableOf r) c lent) lent
-      go true = refl
-      go false = written-none lent
+  lent-is = f ∙ lifted-by r _ _ (λ (d : Decided). written lent (d .moves)) _ _ refl (written-none lent)
 
   -- and demand 3 holds of it
   pub lent-demand : (stands r ≡ true → Keeps r c (length lent) (decideRoster r c (length lent))) → stands r ≡ true → Demand3HeldLent r c lent (openRoster r c lent) lent′
@@ -138,7 +95,7 @@ module _ (r : Roster) (c : Circuit) (lent lent′ : List Move) (f : lent′ ≡ 
   }
     where
       is : decideRoster r c (length lent) ≡ decisionArranged (decideOf (tableOf r) c (length lent))
-      is = decide-stands r c (length lent) s
+      is = lifted-given r _ _ s
 
       opened : openedTable (openRoster r c lent) ≡ openOf (tableOf r) c lent
       opened = λ i. record { table = keeps s .back i; answer = ap (λ (d : Decided). d .opened .answer) is i }

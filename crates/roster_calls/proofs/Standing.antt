@@ -38,11 +38,8 @@ module _ (t : RingTable) (h : Heading) (keys rests : List ℕ) (H : HoldsTable t
   }
 
   -- it stands, and gives the table back
-  pub held-stands : stands (arranged t) ≡ true
-  held-stands = arranged-stands t (H .holds .rules) (H .holds .typed)
-
-  pub held-back : tableOf (arranged t) ≡ t
-  held-back = there-and-back t (H .holds .rules) (H .holds .typed)
+  pub held-stands : (stands (record { keys = keys; rests = rests; heading = h }) ≡ true) × (tableOf (record { keys = keys; rests = rests; heading = h }) ≡ t)
+  held-stands = rw held-arranged (arranged-stands t (H .holds .rules) (H .holds .typed), there-and-back t (H .holds .rules) (H .holds .typed))
 
 -- one that was found to stand, and one that was found not to
 pub tested : (r : Roster) (b : Bool) → b ≡ stands r → not b ≡ false → stands r ≡ true

@@ -1,20 +1,21 @@
 -- A tidying of a roster is that of its table. Assumes nothing.
 use Prim.Native.Nat.{ℕ, _<_}
-use mathlib.Core.Path.{_≡_, refl, sym, ap, subst, _∙_}
-use mathlib.Core.Bool.{Bool, true, false, not}
-use mathlib.Core.List.{List, []}
+use mathlib.Core.Path.{_≡_, refl, ap, _∙_}
+use mathlib.Core.Bool.{true, false, not}
+use mathlib.Core.List.{List, [], _∷_}
 use native.Mathlib.Decide.{decLt}
 use native.Mathlib.Omega.{arith}
+use lib.Dec.{ltb}
 use lib.ListN.{length}
-use Rattle.basis.specs.Choice.{pick, bit}
+use Rattle.basis.specs.Choice.{bit}
 use Rattle.moves.specs.MoveList.{listOf, recorded, writtenAll}
 use Rattle.moves.specs.declared.Move.{Move}
 use Rattle.moves.specs.declared.MoveList.{MoveList}
 use Rattle.moves.proofs.WrittenAll.{written-all-none}
 use Rattle.refusals.specs.declared.Refusal.the-variants.{BrokenRule}
-use Rattle.refusals.specs.Answer.{answerBy}
+use Rattle.refusals.specs.Answer.{_when_, answerBy}
 use Rattle.ring.specs.Table.{meetsRules}
-use Rattle.ring.specs.Tidying.{decideTidyOf, tidyOf, tidyLentAfter}
+use Rattle.ring.specs.Tidying.{decideTidyOf, tidyOf}
 use Rattle.ring.specs.Answer.{tidyingAnswer}
 use Rattle.ring.specs.Numbers.{tidyValues}
 use Rattle.ring.specs.Tidies.{TidiesBy, TidiesLent}
@@ -30,6 +31,7 @@ use Rattle.roster.proofs.Arranged.{typed-weight, weight-typed, table-typed, the
 use Rattle.roster.proofs.Building.{stands-most}
 use Rattle.roster_calls.specs.Calls.{TidyDecided, tidyingArranged, decideTidyRoster, tidyRoster, tidyRosterLent, tidyRosterReasons, tidiedTable}
 use Rattle.roster_calls.proofs.Standing.{tested, untested}
+use Rattle.roster_calls.proofs.Lifted.{lifted-given, lifted-by, lifted-numbers, lifted-valid, lifted-refused}
 
 -- the answer in numbers
 abbrev pub Numbered : Roster → ℕ → TidyDecided → Type 0
@@ -40,19 +42,9 @@ abbrev pub Keeps : Roster → ℕ → TidyDecided → Type 0
 Keeps r n d = TidiesBy (tableOf r) n (tidiedTable (d .tidied)) (recorded (d .moves))
 
 module _ (r : Roster) (n : ℕ) where
-  -- of a roster that stands it is the old tidying, arranged
-  pub tidy-stands : stands r ≡ true → decideTidyRoster r n ≡ tidyingArranged (decideTidyOf (tableOf r) n)
-  unfolding decideTidyRoster
-  tidy-stands s = rw s
-
   -- for every roster
   pub roster-numbers : Numbered r n (decideTidyRoster r n)
-  unfolding decideTidyRoster
-  roster-numbers = go (stands r) refl
-    where
-      go : (b : Bool) → stands r ≡ b → Numbered r n (decideTidyRoster r n)
-      go true s = rw s (rw (stands-rules r s) at (tidy-numbers (tableOf r) n))
-      go false s = rw s
+  roster-numbers = lifted-numbers r _ _ (λ (d : TidyDecided). tidyingAnswer (d .tidied .answer)) ((20 when ltb n 128) ∷ []) (tidyValues (tableOf r)) (tidy-numbers (tableOf r) n) refl
 
   module _ (s : stands r ≡ true) (t : RingTable) (same : t ≡ tableOf r) where
     -- its table meets the rules, and so does the table after it
@@ -71,28 +63,18 @@ module _ (r : Roster) (n : ℕ) where
         is-table : d ≡ decideTidyOf (tableOf r) n
         is-table = is ∙ ap (λ (x : RingTable). decideTidyOf x n) same
 
-        left-is : left ≡ decideTidyRoster r n
-        left-is =
-            (λ i. record { tidied = record { roster = e i; answer = d .tidied .answer }; moves = d .moves }) ∙ ap tidyingArranged is-table
-            ∙ sym (tidy-stands s)
-
-        keeps : Keeps r n left
-        keeps = rw (back .1, is-table) (tidies-by (tableOf r) (stands-rules r s) n)
-
         pub tidies-valid : (left ≡ decideTidyRoster r n) × (Numbered r n left × ((stands u ≡ true) × Keeps r n left))
-        tidies-valid = (left-is, (subst (Numbered r n) (sym left-is) roster-numbers, (back .0, keeps)))
+        tidies-valid =
+            lifted-valid r _ _ (Numbered r n) roster-numbers left s ((λ i. record { tidied = record { roster = e i; answer = d .tidied .answer }; moves = d .moves }) ∙ ap tidyingArranged is-table)
+            (back .0, rw (back .1, is-table) (tidies-by (tableOf r) (stands-rules r s) n))
 
   -- a roster that does not stand is met by 22
-  module _ (fails : stands r ≡ false) (ms : MoveList) (e : ms ≡ listOf []) where
+  module _ (f : stands r ≡ false) (ms : MoveList) (e : ms ≡ listOf []) where
     abbrev kept : TidyDecided
     kept = record { tidied = record { roster = r; answer = notTidied BrokenRule }; moves = ms }
 
-    kept-is : kept ≡ decideTidyRoster r n
-    unfolding decideTidyRoster
-    kept-is = rw (fails, e)
-
     pub tidies-refused : (kept ≡ decideTidyRoster r n) × (Numbered r n kept × (stands r ≡ true → Keeps r n kept))
-    tidies-refused = (kept-is, (subst (Numbered r n) (sym kept-is) roster-numbers, λ s. absurd (omega (arith, ap bit (sym fails ∙ s)))))
+    tidies-refused = lifted-refused r _ _ (Numbered r n) roster-numbers kept f (rw e)
 
 -- the circuits after it are within their fields, as those before it are
 tidied-typed : (r : Roster) (n : ℕ) → stands r ≡ true → Typed (decideTidyOf (tableOf r) n .tidied .table .channels)
@@ -113,14 +95,7 @@ tidied-typed r n s = go (decLt n 128)
 -- with a lent list: it is afterwards as the old tidying leaves it
 module _ (r : Roster) (lent lent′ : List Move) (f : lent′ ≡ writtenAll lent (decideTidyRoster r (length lent) .moves)) where
   pub lent-is : lent′ ≡ tidyRosterLent r lent
-  unfolding decideTidyRoster
-  lent-is = f ∙ go (stands r)
-    where
-      go : (b : Bool)
-          → writtenAll lent (pick b (tidyingArranged (decideTidyOf (tableOf r) (length lent))) (record { tidied = record { roster = r; answer = notTidied BrokenRule }; moves = listOf [] }) .moves)
-          ≡ pick b (tidyLentAfter (tableOf r) lent) lent
-      go true = refl
-      go false = written-all-none lent
+  lent-is = f ∙ lifted-by r _ _ (λ (d : TidyDecided). writtenAll lent (d .moves)) _ _ refl (written-all-none lent)
 
   -- and what a tidying does holds of it
   pub lent-tidies : stands r ≡ true → TidiesLent (tableOf r) lent (tidiedTable (tidyRoster r lent)) lent′
@@ -128,7 +103,7 @@ module _ (r : Roster) (lent lent′ : List Move) (f : lent′ ≡ writtenAll len
       tidies-lent (tableOf r) lent (tidiedTable (tidyRoster r lent)) lent′ tidied (f ∙ ap (λ (d : TidyDecided). writtenAll lent (d .moves)) is) (stands-rules r s)
     where
       is : decideTidyRoster r (length lent) ≡ tidyingArranged (decideTidyOf (tableOf r) (length lent))
-      is = tidy-stands r (length lent) s
+      is = lifted-given r _ _ s
 
       back : tableOf (tidyRoster r lent .roster) ≡ decideTidyOf (tableOf r) (length lent) .tidied .table
       back =

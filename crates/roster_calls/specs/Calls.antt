@@ -49,16 +49,16 @@ abbrev pub tidyingArranged : TidyDecision → TidyDecided
 tidyingArranged d = record { tidied = record { roster = arranged (d .tidied .table); answer = d .tidied .answer }; moves = d .moves }
 
 -- an opening with a lent list of n records
-unfoldable pub decideRoster : Roster → Circuit → ℕ → Decided
+abbrev pub decideRoster : Roster → Circuit → ℕ → Decided
 decideRoster r c n =
     pick (stands r) (decisionArranged (decideOf (tableOf r) c n)) (record { opened = record { roster = r; answer = notOpened BrokenRule }; moves = none })
 
 -- a closing
-unfoldable pub closeRoster : Roster → ℕ → Built
+abbrev pub closeRoster : Roster → ℕ → Built
 closeRoster r n = pick (stands r) (answeredArranged (closeOf (tableOf r) n)) (record { roster = r; verdict = refused BrokenRule })
 
 -- a tidying with a lent list of n records
-unfoldable pub decideTidyRoster : Roster → ℕ → TidyDecided
+abbrev pub decideTidyRoster : Roster → ℕ → TidyDecided
 decideTidyRoster r n =
     pick (stands r) (tidyingArranged (decideTidyOf (tableOf r) n)) (record { tidied = record { roster = r; answer = notTidied BrokenRule }; moves = listOf [] })
 

@@ -38,6 +38,7 @@ pub fn close_valid(roster: Roster, number: u32) -> Built
 pub fn close(roster: Roster, number: u32) -> Built
     ensures answer { λ r. ⌜ r ≡ closeRoster roster number ⌝ }
     ensures numbers { λ r. ⌜ verdictAnswer (r .verdict) ≡ answerBy (closeRosterReasons roster number) [] ⌝ }
+    ensures stands { λ r. ⌜ (stands roster ≡ true → stands (r .roster) ≡ true) ⌝ }
 {
     if !roster.stands() {
         return Built {
