@@ -18,7 +18,6 @@ recorded a = take (a .count) (a .list)
 abbrev pub listOf : List Move → MoveList
 listOf ms = record { count = length ms; list = ms ++ replicate (tidyRecords - length ms) blank }
 
--- "records stand in the order of the moves, and those after them keep their values". A list of fewer than 128 records is left as it
--- is: a tidying that is lent one is refused, and "lent memory is untouched"
+-- "records stand in the order of the moves, and those after them keep their values". A list that has no room for them is left as it is
 unfoldable pub writtenAll : List Move → MoveList → List Move
-writtenAll lent a = pick (ltb (length lent) tidyRecords) lent (recorded a ++ drop (length (recorded a)) lent)
+writtenAll lent a = pick (ltb (length lent) (length (recorded a))) lent (recorded a ++ drop (length (recorded a)) lent)

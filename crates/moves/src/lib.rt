@@ -158,17 +158,17 @@ pub fn write_moves(list: &mut [Move], moves: Moves)
     }
 }
 
-// The moves of a tidying are written to the first records of the lent list, in their order, and the others keep their values. A list of
-// fewer than 128 records is left as it is.
+// Up to 128 moves are written to the first records of the lent list, in their order, and the others keep their values. A list of fewer
+// records than there are moves is left as it is.
 pub fn write_list(list: &mut [Move], moves: MoveList)
     ensures { λ _. ⌜ now (list .exit) ≡ writtenAll (now (list .entry)) moves ⌝ }
 {
-    if list.len() < TIDY_RECORDS {
-        return;
-    }
     let mut end = moves.count;
     if TIDY_RECORDS < end {
         end = TIDY_RECORDS;
+    }
+    if list.len() < end {
+        return;
     }
     let mut i = 0;
     while i < end {

@@ -222,9 +222,9 @@ tidies-lent t lent o lent′ e f rules = rw (e, f) (go (decLt (length lent) tidy
         subst Lent (tidy-long t (length lent) rules (tidyingBy t granted) long refl)
         (record {
           tidies =
-              subst (TidiesBy t (length lent) (tidyingBy t granted .tidied)) (sym (ap (λ l. take (length l) (writtenAll lent (listOf ms))) (sym are) ∙ written-all-front lent (listOf ms) long))
+              subst (TidiesBy t (length lent) (tidyingBy t granted .tidied)) (sym (ap (λ l. take (length l) (writtenAll lent (listOf ms))) (sym are) ∙ written-all-front lent (listOf ms) room))
               (rw (← tidy-long t (length lent) rules (tidyingBy t granted) long refl) at (tidies-by t rules (length lent)));
-          long = written-all-length lent (listOf ms) (rw are (few-moves t rules));
+          long = written-all-length lent (listOf ms);
           rest = rw are at (written-all-rest lent (listOf ms));
           untouched = λ k. absurd (h k);
         })
@@ -237,6 +237,9 @@ tidies-lent t lent o lent′ e f rules = rw (e, f) (go (decLt (length lent) tidy
 
         are : recorded (listOf ms) ≡ ms
         are = moves-are t
+
+        room : length (recorded (listOf ms)) ≤ length lent
+        room = rw are (omega (arith, few-moves t rules, long))
 
 -- the number of moves is a byte
 pub moves-byte : (t : RingTable) (m : ℕ) (p : TidiedPlaces) → meetsRules t ≡ true → p ≡ tidiedPlaces (S.tidyUp (t .nodes) m (t .channels)) → m ≡ limitOf (t .ports)

@@ -110,30 +110,30 @@ module _ {M : Type 1} (𝓤 : URA M) (H : Heap 𝓤) (A : Atoms 𝓤) (W : Given
 
     -- the locals, each with its type and where it lies
     abbrev En : Env 𝓤 H
-    En = (tyUnit, l₀) ∷ (Sl, l₁) ∷ (U′.mir, l₂) ∷ (U′.mir, l₃) ∷ (tyInt w64, l₄) ∷ (tyInt w64, l₅) ∷ (tyInt w64, l₆) ∷ (tyBool, l₇) ∷ (tyBool, l₈) ∷ (tyInt w64, l₉) ∷ (tyPtr, l₁₀) ∷ (tyPtr, l₁₁) ∷ (T′.mir, l₁₂) ∷ (tyInt w64, l₁₃) ∷ (tyPtr, l₁₄) ∷ []
+    En = (tyUnit, l₀) ∷ (Sl, l₁) ∷ (U′.mir, l₂) ∷ (U′.mir, l₃) ∷ (tyInt w64, l₄) ∷ (tyInt w64, l₅) ∷ (tyBool, l₆) ∷ (tyInt w64, l₇) ∷ (tyBool, l₈) ∷ (tyInt w64, l₉) ∷ (tyPtr, l₁₀) ∷ (tyPtr, l₁₁) ∷ (T′.mir, l₁₂) ∷ (tyInt w64, l₁₃) ∷ (tyPtr, l₁₄) ∷ []
 
     -- they are room, from the last to the first, but for `list`, `moves`, its copy, the bound and i, which are as given
     abbrev Locals : Item 𝓤 → Item 𝓤 → Item 𝓤 → Item 𝓤 → Item 𝓤 → List (Item 𝓤)
     Locals j₅ j₄ j₃ j₂ j₁ = ‵ (froom tyPtr l₁₄ 0) ∷ ‵ (fdies tyPtr l₁₄) ∷ ‵ (froom (tyInt w64) l₁₃ 0) ∷ ‵ (fdies (tyInt w64) l₁₃) ∷ ‵ (froom T′.mir l₁₂ 0) ∷ ‵ (fdies T′.mir l₁₂) ∷ ‵ (froom tyPtr l₁₁ 0) ∷ ‵ (fdies tyPtr l₁₁) ∷ ‵ (froom tyPtr l₁₀ 0) ∷ ‵ (fdies tyPtr l₁₀) ∷ ‵ (froom (tyInt w64) l₉ 0) ∷ ‵ (fdies (tyInt w64) l₉)
-        ∷ ‵ (froom tyBool l₈ 0) ∷ ‵ (fdies tyBool l₈) ∷ ‵ (froom tyBool l₇ 0) ∷ ‵ (fdies tyBool l₇) ∷ ‵ (froom (tyInt w64) l₆ 0) ∷ ‵ (fdies (tyInt w64) l₆) ∷ j₅ ∷ ‵ (fdies (tyInt w64) l₅) ∷ j₄ ∷ ‵ (fdies (tyInt w64) l₄) ∷ j₃ ∷ ‵ (fdies U′.mir l₃) ∷ j₂ ∷ ‵ (fdies U′.mir l₂) ∷ j₁ ∷ ‵ (fdies Sl l₁) ∷ ‵ (froom tyUnit l₀ 0) ∷ ‵ (fdies tyUnit l₀) ∷ []
+        ∷ ‵ (froom tyBool l₈ 0) ∷ ‵ (fdies tyBool l₈) ∷ ‵ (froom (tyInt w64) l₇ 0) ∷ ‵ (fdies (tyInt w64) l₇) ∷ ‵ (froom tyBool l₆ 0) ∷ ‵ (fdies tyBool l₆) ∷ j₅ ∷ ‵ (fdies (tyInt w64) l₅) ∷ j₄ ∷ ‵ (fdies (tyInt w64) l₄) ∷ j₃ ∷ ‵ (fdies U′.mir l₃) ∷ j₂ ∷ ‵ (fdies U′.mir l₂) ∷ j₁ ∷ ‵ (fdies Sl l₁) ∷ ‵ (froom tyUnit l₀ 0) ∷ ‵ (fdies tyUnit l₀) ∷ []
 
     -- the context where the borrow is closed, at the list l, and where it is open at it
-    abbrev Closed : List Move → Item 𝓤 → Item 𝓤 → List (Item 𝓤)
-    Closed l j₂ j₁ = ‵ (fobs γ (codedHoleys R .code (heres R l))) ∷ ‵ (fbor κ (Held R (length l) b o γ)) ∷ ‵ (flft κ q) ∷ Locals (‵ (froom (tyInt w64) l₅ 0)) (‵ (froom (tyInt w64) l₄ 0)) (‵ (froom U′.mir l₃ 0)) j₂ j₁
+    abbrev Closed : List Move → Item 𝓤 → Item 𝓤 → Item 𝓤 → Item 𝓤 → List (Item 𝓤)
+    Closed l j₄ j₃ j₂ j₁ = ‵ (fobs γ (codedHoleys R .code (heres R l))) ∷ ‵ (fbor κ (Held R (length l) b o γ)) ∷ ‵ (flft κ q) ∷ Locals (‵ (froom (tyInt w64) l₅ 0)) j₄ j₃ j₂ j₁
 
     abbrev Opened : List Move → Item 𝓤 → Item 𝓤 → List (Item 𝓤)
     Opened l j₅ j₄ = ‵ (row R fullShare l b o) ∷ ‵ (fobor κ q (Held R (length ys) b o γ)) ∷ ‵ (fobs γ (codedHoleys R .code (heres R ys))) ∷ ‵ (fauth γ (codedHoleys R .code (heres R ys)))
         ∷ Locals j₅ j₄ (‵ (fat fullShare U′.mir l₃ 0 v)) (‵ (fat fullShare U′.mir l₂ 0 v)) (‵ (fat fullShare Sl l₁ 0 s))
 
     -- every local is freed: both returns come here
-    ends : (l : List Move) → length l ≡ length ys → l ≡ writtenAll ys m → Sq W (Closed l (‵ (froom U′.mir l₂ 0)) (‵ (froom Sl l₁ 0))) (frees En (prop (Post vunit)))
+    ends : (l : List Move) → length l ≡ length ys → l ≡ writtenAll ys m → Sq W (Closed l (‵ (froom (tyInt w64) l₄ 0)) (‵ (froom U′.mir l₃ 0)) (‵ (froom U′.mir l₂ 0)) (‵ (froom Sl l₁ 0))) (frees En (prop (Post vunit)))
     ends l e said =
         move ! (31 ∷ 32 ∷ []) $ free1 ! $ move ! (29 ∷ 30 ∷ []) $ free1 ! $ move ! (27 ∷ 28 ∷ []) $ free1 ! $ move ! (25 ∷ 26 ∷ []) $ free1 ! $ move ! (23 ∷ 24 ∷ []) $ free1 ! $ move ! (21 ∷ 22 ∷ []) $ free1 ! $ move ! (19 ∷ 20 ∷ []) $ free1 ! $ move ! (17 ∷ 18 ∷ []) $ free1 ! $
         move ! (15 ∷ 16 ∷ []) $ free1 ! $ move ! (13 ∷ 14 ∷ []) $ free1 ! $ move ! (11 ∷ 12 ∷ []) $ free1 ! $ move ! (9 ∷ 10 ∷ []) $ free1 ! $ move ! (7 ∷ 8 ∷ []) $ free1 ! $ move ! (5 ∷ 6 ∷ []) $ free1 ! $ move ! (3 ∷ 4 ∷ []) $ free1 ! $ free0 ! $
         by ! (exits l e said)
 
-    -- what follows once the bound is known: there are n moves
-    module _ (n : ℕ) (all : n ≡ length (recorded m)) (long : 128 ≤ length ys) where
+    -- what follows once the list is known to have room: there are n moves
+    module _ (n : ℕ) (all : n ≡ length (recorded m)) (long : n ≤ length ys) where
       -- the turns made, and their order by what is left
       abbrev Upto : Type 0
       Upto = (i : ℕ) × (i ≤ n)
@@ -152,7 +152,7 @@ module _ {M : Type 1} (𝓤 : URA M) (H : Heap 𝓤) (A : Atoms 𝓤) (W : Given
       most = omega (arith, all, recorded-most m list-long)
 
       length-w : (i : ℕ) → i ≤ n → length (w i) ≡ length ys
-      length-w i h = length-copied (m .list) ys i (omega (arith, h, most, list-long)) (omega (arith, h, most, long))
+      length-w i h = length-copied (m .list) ys i (omega (arith, h, most, list-long)) (omega (arith, h, long))
 
       -- what a turn needs: move i is there, with a record's type, and so is record i; what is computed fits; and the store makes the next list
       module _ (i : ℕ) (less : Holds (ltb i n)) where
@@ -169,7 +169,7 @@ module _ {M : Type 1} (𝓤 : URA M) (H : Heap 𝓤) (A : Atoms 𝓤) (W : Given
         there = omega (arith, under, most, us-long)
 
         within : i < length (w i)
-        within = omega (arith, under, most, long, length-w i (omega (arith, under)))
+        within = omega (arith, under, long, length-w i (omega (arith, under)))
 
         offset-fits : i * 8 < 2 ^ 64
         offset-fits = omega (arith, under, most)
@@ -178,7 +178,7 @@ module _ {M : Type 1} (𝓤 : URA M) (H : Heap 𝓤) (A : Atoms 𝓤) (W : Given
         next-fits = omega (arith, under, most)
 
         next : set (w i) i (r i) ≡ w (i + 1)
-        next = copied-next (m .list) ys i blank (omega (arith, under, most, list-long)) (omega (arith, under, most, long))
+        next = copied-next (m .list) ys i blank (omega (arith, under, most, list-long)) (omega (arith, under, long))
 
       -- the context between two turns
       abbrev At : Upto → List (Item 𝓤)
@@ -212,7 +212,7 @@ module _ {M : Type 1} (𝓤 : URA M) (H : Heap 𝓤) (A : Atoms 𝓤) (W : Given
           (λ over. exec ! C Λ En body.t-10 (atRet En Post) $ closes-slice ! tt R ys (w (i .0)) (length-w (i .0) (i .1)) b o $
           assigns ! (of-opd ! (unit-lit !)) (from ! (stop !)) (init ! 31 refl (tt, tt)) $
           returns ! (look ! 31 refl) $ forget ! 15 refl $ forget ! 21 refl $ forget ! 23 refl $ forget ! 25 refl $ forget ! 27 refl $ forget ! 29 refl $ forget ! 31 refl $
-          ends (w (i .0)) (length-w (i .0) (i .1)) (copied-written-all ys m (i .0) (omega (arith, all, i .1, nltb→le (i .0) n over)) long))
+          ends (w (i .0)) (length-w (i .0) (i .1)) (copied-written-all ys m (i .0) (omega (arith, all, i .1, nltb→le (i .0) n over)) (omega (arith, i .1, long))))
 
       -- the loop, from no turn
       writes : Sq W (Opened ys (‵ (froom (tyInt w64) l₅ 0)) (‵ (fat fullShare (tyInt w64) l₄ 0 (vint w64 n)))) (runs C Λ En body.t-8 (atRet En Post))
@@ -220,29 +220,29 @@ module _ {M : Type 1} (𝓤 : URA M) (H : Heap 𝓤) (A : Atoms 𝓤) (W : Given
           assigns ! (of-opd ! (lit ! tt)) (from ! (stop !)) (init ! 22 refl (tt, record { fits = lit< tt })) $
           first ! $ blocks ! $ loops ! 𝓣 Nearer Nearer-wf At turns (0, zero-le)
 
-    -- the bound is the count, or 128 where that is more: as many as there are moves
-    bounds : 128 ≤ length ys → Sq W (Opened ys (‵ (froom (tyInt w64) l₅ 0)) (‵ (froom (tyInt w64) l₄ 0))) (runs C Λ En body.t-5 (atRet En Post))
-    bounds long =
-        assigns ! (of-opd ! (load ! (from ! (fld ! refl (stop !))) (look-in ! 26 (sub ! 0 refl (whole !))))) (from ! (stop !)) (init ! 24 refl (tt, record { fits = count-fits })) $
-        assigns ! (bin ! (lit ! tt) (load ! (from ! (stop !)) (look ! 24 refl)) tt) (from ! (stop !)) (init ! 18 refl (tt, tt)) $
-        first ! $ branches ! (load ! (from ! (stop !)) (look ! 18 refl))
-        (λ over. assigns-last ! (of-opd ! (lit ! tt)) (from ! (stop !)) (store ! 24 refl (tt, record { fits = lit< tt })) $ forget ! 18 refl $ exec ! C Λ En body.t-8 (atRet En Post) $
-        writes _ (sym (length-recorded-all m list-long (ltb→lt _ (m .count) over))) long)
-        (λ under. skips ! $ forget ! 18 refl $ exec ! C Λ En body.t-8 (atRet En Post) $
-        writes _ (sym (length-recorded m list-long (nltb→le _ (m .count) under))) long)
+    -- the test of the length, which returns or opens the borrow
+    tests : (n : ℕ) → n ≡ length (recorded m) → Sq W (Closed ys (‵ (fat fullShare (tyInt w64) l₄ 0 (vint w64 n))) (‵ (fat fullShare U′.mir l₃ 0 v)) (‵ (fat fullShare U′.mir l₂ 0 v)) (‵ (fat fullShare Sl l₁ 0 s))) (runs C Λ En body.t-5 (atRet En Post))
+    tests n all =
+        assigns ! (of-opd ! (load ! (from ! (fld ! refl (stop !))) (look-in ! 29 (sub ! 1 refl (whole !))))) (from ! (stop !)) (init ! 17 refl (tt, record { fits = room .0 })) $
+        assigns ! (bin ! (load ! (from ! (stop !)) (look ! 17 refl)) (load ! (from ! (stop !)) (look ! 23 refl)) tt) (from ! (stop !)) (init ! 19 refl (tt, tt)) $
+        first ! $ branches ! (load ! (from ! (stop !)) (look ! 19 refl))
+        (λ short. assigns ! (of-opd ! (unit-lit !)) (from ! (stop !)) (init ! 31 refl (tt, tt)) $
+        returns-within ! Post refl (look ! 31 refl) $ forget ! 17 refl $ forget ! 19 refl $ forget ! 23 refl $ forget ! 25 refl $ forget ! 27 refl $ forget ! 29 refl $ forget ! 31 refl $
+        ends ys refl (sym (written-all-short ys m (omega (arith, all, ltb→lt (length ys) n short)))))
+        (λ long. skips ! $ forget ! 17 refl $ forget ! 19 refl $ exec ! C Λ En body.t-8 (atRet En Post) $ opens-slice ! tt R ys b o $
+        writes n all (nltb→le (length ys) n long))
 
-    -- the code up to the test of the length, which returns or opens the borrow
-    starts : Sq W (Closed ys (‵ (fat fullShare U′.mir l₂ 0 v)) (‵ (fat fullShare Sl l₁ 0 s))) (runs C Λ En body.t-1 (atRet En Post))
+    -- the code up to it: the bound is the count, or 128 where that is more, as many as there are moves
+    starts : Sq W (Closed ys (‵ (froom (tyInt w64) l₄ 0)) (‵ (froom U′.mir l₃ 0)) (‵ (fat fullShare U′.mir l₂ 0 v)) (‵ (fat fullShare Sl l₁ 0 s))) (runs C Λ En body.t-1 (atRet En Post))
     starts =
         assigns ! (of-opd ! (load ! (from ! (stop !)) (look ! 27 refl))) (from ! (stop !)) (init ! 25 refl typed-moves) $
-        assigns ! (of-opd ! (load ! (from ! (fld ! refl (stop !))) (look-in ! 29 (sub ! 1 refl (whole !))))) (from ! (stop !)) (init ! 19 refl (tt, record { fits = room .0 })) $
-        assigns ! (bin ! (load ! (from ! (stop !)) (look ! 19 refl)) (lit ! tt) tt) (from ! (stop !)) (init ! 17 refl (tt, tt)) $
-        first ! $ branches ! (load ! (from ! (stop !)) (look ! 17 refl))
-        (λ short. assigns ! (of-opd ! (unit-lit !)) (from ! (stop !)) (init ! 31 refl (tt, tt)) $
-        returns-within ! Post refl (look ! 31 refl) $ forget ! 17 refl $ forget ! 19 refl $ forget ! 25 refl $ forget ! 27 refl $ forget ! 29 refl $ forget ! 31 refl $
-        ends ys refl (sym (written-all-short ys m (ltb→lt (length ys) _ short))))
-        (λ long. skips ! $ forget ! 17 refl $ forget ! 19 refl $ exec ! C Λ En body.t-5 (atRet En Post) $ opens-slice ! tt R ys b o $
-        bounds (nltb→le (length ys) _ long))
+        assigns ! (of-opd ! (load ! (from ! (fld ! refl (stop !))) (look-in ! 25 (sub ! 0 refl (whole !))))) (from ! (stop !)) (init ! 23 refl (tt, record { fits = count-fits })) $
+        assigns ! (bin ! (lit ! tt) (load ! (from ! (stop !)) (look ! 23 refl)) tt) (from ! (stop !)) (init ! 19 refl (tt, tt)) $
+        first ! $ branches ! (load ! (from ! (stop !)) (look ! 19 refl))
+        (λ over. assigns-last ! (of-opd ! (lit ! tt)) (from ! (stop !)) (store ! 23 refl (tt, record { fits = lit< tt })) $ forget ! 19 refl $ exec ! C Λ En body.t-5 (atRet En Post) $
+        tests _ (sym (length-recorded-all m list-long (ltb→lt _ (m .count) over))))
+        (λ under. skips ! $ forget ! 19 refl $ exec ! C Λ En body.t-5 (atRet En Post) $
+        tests _ (sym (length-recorded m list-long (nltb→le _ (m .count) under))))
 
   walk : (𝓣 : Tables 𝓤 H) → ent 𝓤 (onEntry 𝓤 H A write-list.signature (κ, tt) (q, tt) a vals) (WpFn 𝓤 H (𝓣 .C) (𝓣 .Λ) code.function (s ∷ v ∷ []) Post)
   walk 𝓣 =
