@@ -4,8 +4,7 @@ use mathlib.Core.List.{List, [], _∷_, map}
 use Rattle.basis.specs.Count.{All}
 use Rattle.lightpath.specs.Circuit.{ahead, users}
 use Rattle.lit_words.specs.Lit.{bitOf, word, noneLitFrom}
-use Rattle.moves.specs.Lent.{written}
-use Rattle.moves.specs.MoveList.{writtenAll}
+use Rattle.moves.specs.Lent.{fronted}
 use Rattle.steps.specs.Steps.{unlitPlace, planOf}
 use Rattle.tidying.specs.Tidying.{tidyWithin}
 use Rattle.ring.specs.Making.{makeOf}
@@ -32,7 +31,7 @@ each (c ∷ cs) e = ((cc), each cs (cc))
 
 -- the answers to the table's, computed
 computed : map (λ c. answerTo (c .asked)) cases ≡ map (λ c. c .expected) cases
-unfolding ahead word noneLitFrom makeOf decideOf closeOf decideTidyOf tidyWithin unlitPlace planOf written writtenAll formOf mapBytes recordsBytes recordBytes fieldMap circuitBytes highFirst optionalBytes bitOf numberFrom readOf readTable checked readRecordsBy readPlaceBy readRecord readSecond mapHolds readCircuit readOptional readMap mapBit readPorts tunedOf carriedOf frequencyAt wavelengthAt users lightpathsBelow loadsTo reportOf keyOf restOf entryOf entries arranged tableOf stands builtOf tableBuilt rowOfRoster circuitOfRoster
+unfolding ahead word noneLitFrom makeOf decideOf closeOf decideTidyOf tidyWithin unlitPlace planOf formOf mapBytes recordsBytes recordBytes fieldMap circuitBytes highFirst optionalBytes bitOf numberFrom readOf readTable checked readRecordsBy readPlaceBy readRecord readSecond mapHolds readCircuit readOptional readMap mapBit readPorts tunedOf carriedOf frequencyAt wavelengthAt users lightpathsBelow loadsTo reportOf keyOf restOf entryOf entries arranged tableOf stands builtOf tableBuilt rowOfRoster circuitOfRoster fronted
 computed = refl
 
 -- so each of its cases holds

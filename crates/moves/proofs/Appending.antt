@@ -5,7 +5,7 @@ use mathlib.Core.List.{List, [], _∷_, _++_, append-assoc, append-nil}
 use native.Mathlib.Omega.{arith}
 use native.Mathlib.Numerals.{add-one}
 use lib.ListN.{length, set, take, drop, replicate, length-append, take-append-drop}
-use lib.Seq.{take-all, take-suc-set, take-append-seam, drop-append-add, drop-drop, drop-set-lt}
+use lib.Seq.{take-all, take-suc-set, drop-append-add, drop-drop, drop-set-lt}
 use Rattle.limits.specs.Limits.{tidyRecords}
 use Rattle.moves.specs.declared.Move.{Move}
 use Rattle.moves.specs.declared.Moves.{Moves}
@@ -14,6 +14,7 @@ use Rattle.moves.specs.Records.{blank, listed}
 use Rattle.moves.specs.MoveList.{recorded, listOf}
 use Rattle.moves.specs.Appends.{Appends}
 use Rattle.moves.proofs.Listed.{length-listed}
+use Rattle.moves.proofs.Recorded.{recorded-list}
 
 -- a move is stored after them
 pub append-stored : (a : MoveList) (m : Move) → a .count < length (a .list) → Appends a (m ∷ []) (record { count = a .count + 1; list = set (a .list) (a .count) m })
@@ -68,7 +69,7 @@ append-list ms ns b room h =
     blanks = replicate (tidyRecords - length ms) blank
 
     are : take (b .count) (b .list) ≡ ms ++ ns
-    are = h .are ∙ ap (λ l. l ++ ns) (take-append-seam ms blanks)
+    are = h .are ∙ ap (λ l. l ++ ns) (recorded-list ms)
 
     left : drop (b .count) (ms ++ blanks) ≡ replicate (tidyRecords - length (ms ++ ns)) blank
     left =

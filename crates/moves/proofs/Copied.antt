@@ -7,6 +7,9 @@ use native.Mathlib.Numerals.{add-one}
 use lib.ListN.{length, getD, take, drop, set, length-append, length-drop}
 use lib.Seq.{length-take-le, take-suc, drop-cons, set-at, append-snoc}
 use Rattle.moves.specs.declared.Move.{Move}
+use Rattle.moves.specs.declared.MoveList.{MoveList}
+use Rattle.moves.specs.MoveList.{recorded, writtenAll}
+use Rattle.moves.proofs.Front.{fronted-long}
 
 -- the first i of s, and then l from there on
 abbrev pub copied : List Move → List Move → ℕ → List Move
@@ -21,7 +24,11 @@ pub length-copied : (s l : List Move) (i : ℕ) → i ≤ length s → i ≤ len
 length-copied s l i h k = simp (length-append, length-drop, length-take-le i s h) (omega arith)
 
 -- as many as the first n are, are the first n
-pub take-length-take : (n : ℕ) (s : List Move) → take (length (take n s)) s ≡ take n s
+take-length-take : (n : ℕ) (s : List Move) → take (length (take n s)) s ≡ take n s
 take-length-take zero s = refl
 take-length-take (suc n) [] = refl
 take-length-take (suc n) (x ∷ s) = ap (λ (r : List Move). x ∷ r) (take-length-take n s)
+
+-- copied one after the other, all moves by value make what they make of a list that has room for them
+pub copied-written-all : (l : List Move) (a : MoveList) (n : ℕ) → n ≡ length (recorded a) → n ≤ length l → copied (a .list) l n ≡ writtenAll l a
+copied-written-all l a n e h = rw e (rw (take-length-take (a .count) (a .list)) (sym (fronted-long _ (recorded a) l (omega arith))))

@@ -2,12 +2,10 @@
 -- takes.
 pub mod Listed
 pub mod Front
-pub mod Written
 pub mod Stores
 pub mod Recorded
 pub mod Appending
 pub mod Copied
-pub mod WrittenAll
 pub mod Prelude
 pub mod Walk
 pub mod Element

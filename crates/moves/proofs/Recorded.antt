@@ -1,11 +1,18 @@
 -- The moves of a tidying by value and as a list. Assumes nothing.
 use Prim.Native.Nat.{_≤_, _<_}
 use mathlib.Core.Path.{_≡_}
+use mathlib.Core.List.{List}
 use native.Mathlib.Omega.{arith}
 use lib.ListN.{length, length-take}
+use lib.Seq.{take-append-seam}
 use Rattle.limits.specs.Limits.{tidyRecords}
+use Rattle.moves.specs.declared.Move.{Move}
 use Rattle.moves.specs.declared.MoveList.{MoveList}
-use Rattle.moves.specs.MoveList.{recorded}
+use Rattle.moves.specs.MoveList.{recorded, listOf}
+
+-- moves by value are recorded again as they were
+pub recorded-list : (ms : List Move) → recorded (listOf ms) ≡ ms
+recorded-list ms = take-append-seam ms _
 
 module _ (a : MoveList) (long : length (a .list) ≡ tidyRecords) where
   -- there are at most 128

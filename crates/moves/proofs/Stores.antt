@@ -12,7 +12,7 @@ use Rattle.basis.specs.Choice.{pick}
 use Rattle.moves.specs.declared.Move.{Move}
 use Rattle.moves.specs.declared.Moves.{Moves}
 use Rattle.moves.specs.Lent.{written}
-use Rattle.moves.proofs.Written.{written-long}
+use Rattle.moves.proofs.Front.{fronted-long}
 
 -- the list with m at position i where i is below n, else the list
 abbrev pub putBelow : List Move → ℕ → ℕ → Move → List Move
@@ -56,4 +56,4 @@ stored-headed (x ∷ y ∷ []) n p q r h = absurd (omega arith)
 
 -- which is the list as it is defined
 pub stores-written : (l : List Move) (a : Moves) → 3 ≤ length l → stored l (a .count) (a .first) (a .second) (a .third) ≡ written l a
-stores-written l a h = stored-headed l (a .count) (a .first) (a .second) (a .third) h ∙ sym (written-long l a h)
+stores-written l a h = stored-headed l (a .count) (a .first) (a .second) (a .third) h ∙ sym (fronted-long _ _ l h)

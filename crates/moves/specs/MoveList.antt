@@ -2,13 +2,12 @@
 -- What `RingTable::tidy`, `decide_tidy` and `decide_tidy_valid` promise.
 use Prim.Native.Nat.{_-_}
 use mathlib.Core.List.{List, _++_}
-use lib.Dec.{ltb}
-use lib.ListN.{length, take, drop, replicate}
-use Rattle.basis.specs.Choice.{pick}
+use lib.ListN.{length, take, replicate}
 use Rattle.limits.specs.Limits.{tidyRecords}
 use Rattle.moves.specs.declared.Move.{Move}
 use Rattle.moves.specs.declared.MoveList.{MoveList}
 use Rattle.moves.specs.Records.{blank}
+use Rattle.moves.specs.Lent.{fronted}
 
 -- the moves of a tidying, in their order: as many of the list as its count says, and all of them where it says more
 abbrev pub recorded : MoveList → List Move
@@ -18,6 +17,6 @@ recorded a = take (a .count) (a .list)
 abbrev pub listOf : List Move → MoveList
 listOf ms = record { count = length ms; list = ms ++ replicate (tidyRecords - length ms) blank }
 
--- "records stand in the order of the moves, and those after them keep their values". A list that has no room for them is left as it is
-unfoldable pub writtenAll : List Move → MoveList → List Move
-writtenAll lent a = pick (ltb (length lent) (length (recorded a))) lent (recorded a ++ drop (length (recorded a)) lent)
+-- "records stand in the order of the moves, and those after them keep their values", in a list that has room for them
+abbrev pub writtenAll : List Move → MoveList → List Move
+writtenAll lent a = fronted (length (recorded a)) (recorded a) lent

@@ -16,7 +16,8 @@ use Rattle.moves.specs.Records.{movesOf, listed}
 use Rattle.moves.specs.Lent.{written}
 use Rattle.moves.specs.declared.Move.{Move}
 use Rattle.moves.proofs.Listed.{listed-moves}
-use Rattle.moves.proofs.Written.{length-written, take-written, drop-written, written-none}
+use Rattle.moves.proofs.Listed.{listed-most}
+use Rattle.moves.proofs.Front.{length-fronted, take-fronted, drop-fronted, fronted-none}
 use Rattle.rules.proofs.Rules.{Rules, rules-hold}
 use Rattle.steps.proofs.Chain.{kept-found}
 use Rattle.refusals.specs.Refusal.{numberOf, judged}
@@ -166,16 +167,16 @@ module _ (t : RingTable) (c : Circuit) (lent : List Move) (rules : meetsRules t 
           let same = moves t c (length lent) rules g in
           subst Writes (sym (decided t c (length lent) rules granted g))
           (subst (λ l. (take (length l) (written lent ms) ≡ listed ms) × (drop (length l) (written lent ms) ≡ drop (length l) lent)) same
-          (take-written lent ms (ltb-false (length lent) 3 (none-holds (openCauses t c (length lent)) g .0)), drop-written lent ms))
-      go (refused r) g = subst Writes (sym (decided t c (length lent) rules (refused r) g)) (refl, written-none lent)
+          (take-fronted _ (listed ms) lent (ltb-false (length lent) 3 (none-holds (openCauses t c (length lent)) g .0)), drop-fronted _ (listed ms) lent))
+      go (refused r) g = subst Writes (sym (decided t c (length lent) rules (refused r) g)) (refl, fronted-none _ lent)
 
   -- demand 3 of the list
   demand3-lent : Demand3Lent t c lent (openOf t c lent) (lentAfter t c lent)
   demand3-lent = record {
     demand = subst (Demand3 t c (length lent) (openOf t c lent)) (sym (writes .0)) (demand3 t c (length lent) rules);
-    long = length-written lent (decideOf t c (length lent) .moves);
+    long = length-fronted _ _ lent (listed-most (decideOf t c (length lent) .moves));
     rest = writes .1;
-    untouched = λ h. ap (λ d. written lent (d .moves)) (turned t c (length lent) rules h .1) ∙ written-none lent;
+    untouched = λ h. ap (λ d. written lent (d .moves)) (turned t c (length lent) rules h .1) ∙ fronted-none _ lent;
   }
 
 -- an opening that answers as defined, and leaves the list as defined, meets it

@@ -7,8 +7,7 @@ use mathlib.Core.Bool.{Bool, true, false, not}
 use mathlib.Core.List.{List, []}
 use native.Mathlib.Decide.{decLt}
 use native.Mathlib.Omega.{arith}
-use lib.ListN.{length, take}
-use lib.Seq.{take-append-seam}
+use lib.ListN.{length}
 use borrow.Author.Tests.{lt-ltb, le-ltb, not-true}
 use Rattle.limits.specs.Limits.{placeCount, tidyRecords}
 use Rattle.lightpath.specs.Place.{directionOf}
@@ -22,7 +21,8 @@ use Rattle.channels.proofs.Numbers.{one-place}
 use Rattle.moves.specs.MoveList.{recorded, listOf, writtenAll}
 use Rattle.moves.specs.declared.Move.{Move}
 use Rattle.moves.specs.declared.MoveList.{MoveList}
-use Rattle.moves.proofs.WrittenAll.{written-all-length, written-all-front, written-all-rest, written-all-none}
+use Rattle.moves.proofs.Recorded.{recorded-list}
+use Rattle.moves.proofs.Front.{length-fronted, take-fronted, drop-fronted, fronted-none}
 use Rattle.ports.specs.Ports.{limitOf}
 use Rattle.rules.proofs.Rules.{Rules, rules-hold, Limits, limits-hold}
 use Rattle.steps.proofs.Chain.{kept-found}
@@ -77,10 +77,6 @@ module _ (t : RingTable) (n : ℕ) (rules : meetsRules t ≡ true) where
 pub tidied-up : (t : RingTable) (m : ℕ) (p : TidiedPlaces) → p ≡ tidiedPlaces (S.tidyUp (t .nodes) m (t .channels)) → m ≡ limitOf (t .ports)
     → record { tidied = record { table = withChannels t (p .channels); answer = tidied (p .rounds) (p .moves .count) }; moves = p .moves } ≡ tidyingBy t granted
 tidied-up t m p e l = rw (e, l)
-
--- the moves by value are the rounds'
-moves-are : (t : RingTable) → recorded (listOf (roundsOf t .moves)) ≡ roundsOf t .moves
-moves-are t = take-append-seam (roundsOf t .moves) _
 
 module _ (t : RingTable) (rules : meetsRules t ≡ true) where
   -- the rounds of a table
@@ -161,7 +157,7 @@ module _ (t : RingTable) (rules : meetsRules t ≡ true) where
   tidies-by n = record {
     refused = λ l. rw (← tidy-short t n rules (tidyingBy t (refused ShortList)) l refl) (refl, refl, refl);
     done =
-        λ l. rw (← tidy-long t n rules (tidyingBy t granted) l refl, moves-are t)
+        λ l. rw (← tidy-long t n rules (tidyingBy t granted) l refl, recorded-list (roundsOf t .moves))
         (roundsOf t .rounds, length (roundsOf t .moves), refl, tidied-table);
   }
 
@@ -217,15 +213,15 @@ tidies-lent t lent o lent′ e f rules = rw (e, f) (go (decLt (length lent) tidy
         })
       where
         same : writtenAll lent (listOf []) ≡ lent
-        same = written-all-none lent
+        same = fronted-none _ lent
     go (no h) =
         subst Lent (tidy-long t (length lent) rules (tidyingBy t granted) long refl)
         (record {
           tidies =
-              subst (TidiesBy t (length lent) (tidyingBy t granted .tidied)) (sym (ap (λ l. take (length l) (writtenAll lent (listOf ms))) (sym are) ∙ written-all-front lent (listOf ms) room))
+              subst (TidiesBy t (length lent) (tidyingBy t granted .tidied)) (recorded-list ms ∙ sym (rw (recorded-list ms) (take-fronted _ ms lent (omega (arith, few-moves t rules)))))
               (rw (← tidy-long t (length lent) rules (tidyingBy t granted) long refl) at (tidies-by t rules (length lent)));
-          long = written-all-length lent (listOf ms);
-          rest = rw are at (written-all-rest lent (listOf ms));
+          long = length-fronted _ (recorded (listOf ms)) lent (omega arith);
+          rest = rw (recorded-list ms) (drop-fronted _ ms lent);
           untouched = λ k. absurd (h k);
         })
       where
@@ -234,12 +230,6 @@ tidies-lent t lent o lent′ e f rules = rw (e, f) (go (decLt (length lent) tidy
 
         long : tidyRecords ≤ length lent
         long = omega arith
-
-        are : recorded (listOf ms) ≡ ms
-        are = moves-are t
-
-        room : length (recorded (listOf ms)) ≤ length lent
-        room = rw are (omega (arith, few-moves t rules, long))
 
 -- the number of moves is a byte
 pub moves-byte : (t : RingTable) (m : ℕ) (p : TidiedPlaces) → meetsRules t ≡ true → p ≡ tidiedPlaces (S.tidyUp (t .nodes) m (t .channels)) → m ≡ limitOf (t .ports)

@@ -9,7 +9,7 @@ use Rattle.moves.specs.Records.{none, listed}
 use Rattle.moves.specs.Lent.{written}
 use Rattle.moves.specs.declared.Move.{Move}
 use Rattle.moves.specs.declared.Moves.{Moves}
-use Rattle.moves.proofs.Written.{written-none}
+use Rattle.moves.proofs.Front.{fronted-none}
 use Rattle.refusals.specs.declared.Refusal.the-variants.{BrokenRule}
 use Rattle.refusals.specs.Answer.{answerBy}
 use Rattle.ring.specs.Opening.{decideOf, openOf}
@@ -84,7 +84,7 @@ module _ (r : Roster) (c : Circuit) (n : ℕ) where
 -- with a lent list: it is afterwards as the old opening leaves it
 module _ (r : Roster) (c : Circuit) (lent lent′ : List Move) (f : lent′ ≡ written lent (decideRoster r c (length lent) .moves)) where
   pub lent-is : lent′ ≡ openRosterLent r c lent
-  lent-is = f ∙ lifted-by r _ _ (λ (d : Decided). written lent (d .moves)) _ _ refl (written-none lent)
+  lent-is = f ∙ lifted-by r _ _ (λ (d : Decided). written lent (d .moves)) _ _ refl (fronted-none _ lent)
 
   -- and demand 3 holds of it
   pub lent-demand : (stands r ≡ true → Keeps r c (length lent) (decideRoster r c (length lent))) → stands r ≡ true → Demand3HeldLent r c lent (openRoster r c lent) lent′

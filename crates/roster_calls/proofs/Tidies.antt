@@ -11,7 +11,7 @@ use Rattle.basis.specs.Choice.{bit}
 use Rattle.moves.specs.MoveList.{listOf, recorded, writtenAll}
 use Rattle.moves.specs.declared.Move.{Move}
 use Rattle.moves.specs.declared.MoveList.{MoveList}
-use Rattle.moves.proofs.WrittenAll.{written-all-none}
+use Rattle.moves.proofs.Front.{fronted-none}
 use Rattle.refusals.specs.declared.Refusal.the-variants.{BrokenRule}
 use Rattle.refusals.specs.Answer.{_when_, answerBy}
 use Rattle.ring.specs.Table.{meetsRules}
@@ -95,7 +95,7 @@ tidied-typed r n s = go (decLt n 128)
 -- with a lent list: it is afterwards as the old tidying leaves it
 module _ (r : Roster) (lent lent′ : List Move) (f : lent′ ≡ writtenAll lent (decideTidyRoster r (length lent) .moves)) where
   pub lent-is : lent′ ≡ tidyRosterLent r lent
-  lent-is = f ∙ lifted-by r _ _ (λ (d : TidyDecided). writtenAll lent (d .moves)) _ _ refl (written-all-none lent)
+  lent-is = f ∙ lifted-by r _ _ (λ (d : TidyDecided). writtenAll lent (d .moves)) _ _ refl (fronted-none _ lent)
 
   -- and what a tidying does holds of it
   pub lent-tidies : stands r ≡ true → TidiesLent (tableOf r) lent (tidiedTable (tidyRoster r lent)) lent′

@@ -9,9 +9,9 @@ use Rattle.moves.specs.declared.Move.{Move}
 use Rattle.moves.specs.declared.MoveList.{MoveList}
 use Rattle.moves.specs.Records.{blank}
 use Rattle.moves.specs.MoveList.{recorded, writtenAll}
-use Rattle.moves.proofs.WrittenAll.{written-all-short, copied-written-all}
+use Rattle.moves.proofs.Front.{fronted-short}
 use Rattle.moves.proofs.Recorded.{recorded-most, length-recorded, length-recorded-all}
-use Rattle.moves.proofs.Copied.{copied, copied-next, length-copied}
+use Rattle.moves.proofs.Copied.{copied, copied-next, length-copied, copied-written-all}
 use Rattle.moves.proofs.Element.{elem, each-is}
 use Rattle.moves.proofs.Walk.{made, while-test}
 use Rattle.moves.proofs.Move as T
@@ -228,7 +228,7 @@ module _ {M : Type 1} (𝓤 : URA M) (H : Heap 𝓤) (A : Atoms 𝓤) (W : Given
         first ! $ branches ! (load ! (from ! (stop !)) (look ! 19 refl))
         (λ short. assigns ! (of-opd ! (unit-lit !)) (from ! (stop !)) (init ! 31 refl (tt, tt)) $
         returns-within ! Post refl (look ! 31 refl) $ forget ! 17 refl $ forget ! 19 refl $ forget ! 23 refl $ forget ! 25 refl $ forget ! 27 refl $ forget ! 29 refl $ forget ! 31 refl $
-        ends ys refl (sym (written-all-short ys m (omega (arith, all, ltb→lt (length ys) n short)))))
+        ends ys refl (sym (fronted-short _ (recorded m) ys (omega (arith, all, ltb→lt (length ys) n short)))))
         (λ long. skips ! $ forget ! 17 refl $ forget ! 19 refl $ exec ! C Λ En body.t-8 (atRet En Post) $ opens-slice ! tt R ys b o $
         writes n all (nltb→le (length ys) n long))
 

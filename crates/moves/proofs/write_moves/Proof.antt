@@ -7,7 +7,7 @@ use denote.Struct.Laws as LL
 use Rattle.moves.specs.declared.Move.{Move}
 use Rattle.moves.specs.declared.Moves.{Moves}
 use Rattle.moves.specs.Lent.{written}
-use Rattle.moves.proofs.Written.{written-short}
+use Rattle.moves.proofs.Front.{fronted-short}
 use Rattle.moves.proofs.Stores.{putBelow, put-below, put-above, length-putBelow, stores-written}
 use Rattle.moves.proofs.Walk.{made}
 use Rattle.moves.proofs.Move as T
@@ -192,7 +192,7 @@ module _ {M : Type 1} (𝓤 : URA M) (H : Heap 𝓤) (A : Atoms 𝓤) (W : Given
       first ! $ branches ! (load ! (from ! (stop !)) (look ! 9 refl))
       (λ short. assigns ! (of-opd ! (unit-lit !)) (from ! (stop !)) (init ! 17 refl (tt, tt)) $
       returns-within ! Post refl (look ! 17 refl) $ forget ! 9 refl $ forget ! 11 refl $ forget ! 13 refl $ forget ! 15 refl $ forget ! 17 refl $
-      ends C Λ l₀ l₁ l₂ l₃ l₄ l₅ l₆ l₇ ys refl (sym (written-short ys m (ltb→lt (length ys) 3 short))))
+      ends C Λ l₀ l₁ l₂ l₃ l₄ l₅ l₆ l₇ ys refl (sym (fronted-short _ _ ys (ltb→lt (length ys) 3 short))))
       (λ long. skips ! $ exec ! C Λ (En C Λ l₀ l₁ l₂ l₃ l₄ l₅ l₆ l₇) body.t-4 (atRet (En C Λ l₀ l₁ l₂ l₃ l₄ l₅ l₆ l₇) Post) $ opens-slice ! tt R ys b o $
       begins C Λ l₀ l₁ l₂ l₃ l₄ l₅ l₆ l₇ (nltb→le (length ys) 3 long) _)))))))))
 
