@@ -1,13 +1,10 @@
 -- A tidying of a roster is that of its table. Assumes nothing.
-use Prim.Native.Nat.{ℕ, _<_}
+use Prim.Native.Nat.{ℕ}
 use mathlib.Core.Path.{_≡_, refl, ap, _∙_}
-use mathlib.Core.Bool.{true, false, not}
+use mathlib.Core.Bool.{true, false}
 use mathlib.Core.List.{List, [], _∷_}
-use native.Mathlib.Decide.{decLt}
-use native.Mathlib.Omega.{arith}
 use lib.Dec.{ltb}
 use lib.ListN.{length}
-use Rattle.basis.specs.Choice.{bit}
 use Rattle.moves.specs.MoveList.{listOf, recorded, writtenAll}
 use Rattle.moves.specs.declared.Move.{Move}
 use Rattle.moves.specs.declared.MoveList.{MoveList}
@@ -18,18 +15,16 @@ use Rattle.ring.specs.Table.{meetsRules}
 use Rattle.ring.specs.Tidying.{decideTidyOf, tidyOf}
 use Rattle.ring.specs.Answer.{tidyingAnswer}
 use Rattle.ring.specs.Numbers.{tidyValues}
-use Rattle.ring.specs.Tidies.{TidiesBy, TidiesLent}
 use Rattle.ring.specs.declared.RingTable.{RingTable}
 use Rattle.ring.specs.declared.TidyDecision.{TidyDecision}
 use Rattle.ring.specs.declared.Tidying.the-variants.{Refused as notTidied}
 use Rattle.ring.proofs.Rounds.{tidy-numbers, tidy-rules, tidies-by, tidies-lent}
-use Rattle.entries.specs.Entry.{inFields}
 use Rattle.roster.specs.declared.Roster.{Roster}
-use Rattle.roster.specs.Held.{Typed}
 use Rattle.roster.specs.Roster.{arranged, tableOf, stands}
-use Rattle.roster.proofs.Arranged.{typed-weight, weight-typed, table-typed, there-and-back, stands-rules}
+use Rattle.roster.proofs.Arranged.{stands-rules}
 use Rattle.roster.proofs.Building.{stands-most}
 use Rattle.roster_calls.specs.Calls.{TidyDecided, tidyingArranged, decideTidyRoster, tidyRoster, tidyRosterLent, tidyRosterReasons, tidiedTable}
+use Rattle.roster_calls.specs.Tidies.{TidiesHeld, TidiesHeldLent}
 use Rattle.roster_calls.proofs.Standing.{tested, untested}
 use Rattle.roster_calls.proofs.Lifted.{lifted-given, lifted-by, lifted-numbers, lifted-valid, lifted-refused}
 
@@ -39,7 +34,7 @@ Numbered r n d = tidyingAnswer (d .tidied .answer) ≡ answerBy (tidyRosterReaso
 
 -- and what a tidying does
 abbrev pub Keeps : Roster → ℕ → TidyDecided → Type 0
-Keeps r n d = TidiesBy (tableOf r) n (tidiedTable (d .tidied)) (recorded (d .moves))
+Keeps r n d = TidiesHeld r n (d .tidied) (recorded (d .moves))
 
 module _ (r : Roster) (n : ℕ) where
   -- for every roster
@@ -66,7 +61,7 @@ module _ (r : Roster) (n : ℕ) where
         pub tidies-valid : (left ≡ decideTidyRoster r n) × (Numbered r n left × ((stands u ≡ true) × Keeps r n left))
         tidies-valid =
             lifted-valid r _ _ (Numbered r n) roster-numbers left s ((λ i. record { tidied = record { roster = e i; answer = d .tidied .answer }; moves = d .moves }) ∙ ap tidyingArranged is-table)
-            (back .0, rw (back .1, is-table) (tidies-by (tableOf r) (stands-rules r s) n))
+            (back .0, record { again = back .0; back = back .1 ∙ ap (λ (x : TidyDecision). x .tidied .table) is-table; tidies = rw (back .1, is-table) (tidies-by (tableOf r) (stands-rules r s) n) })
 
   -- a roster that does not stand is met by 22
   module _ (f : stands r ≡ false) (ms : MoveList) (e : ms ≡ listOf []) where
@@ -76,42 +71,23 @@ module _ (r : Roster) (n : ℕ) where
     pub tidies-refused : (kept ≡ decideTidyRoster r n) × (Numbered r n kept × (stands r ≡ true → Keeps r n kept))
     tidies-refused = lifted-refused r _ _ (Numbered r n) roster-numbers kept f (rw e)
 
--- the circuits after it are within their fields, as those before it are
-tidied-typed : (r : Roster) (n : ℕ) → stands r ≡ true → Typed (decideTidyOf (tableOf r) n .tidied .table .channels)
-tidied-typed r n s = go (decLt n 128)
-  where
-    t : RingTable
-    t = tableOf r
-
-    by : TidiesBy t n (decideTidyOf t n .tidied) (recorded (decideTidyOf t n .moves))
-    by = tidies-by t (stands-rules r s) n
-
-    go : Dec (n < 128) → Typed (decideTidyOf t n .tidied .table .channels)
-    go (yes l) = rw (by .refused l .1) (table-typed r)
-    go (no h) =
-        typed-weight (decideTidyOf t n .tidied .table .channels)
-        (by .done (omega arith) .3 .exact (λ x. bit (not (inFields x))) ∙ weight-typed (t .channels) (table-typed r))
-
 -- with a lent list: it is afterwards as the old tidying leaves it
 module _ (r : Roster) (lent lent′ : List Move) (f : lent′ ≡ writtenAll lent (decideTidyRoster r (length lent) .moves)) where
   pub lent-is : lent′ ≡ tidyRosterLent r lent
   lent-is = f ∙ lifted-by r _ _ (λ (d : TidyDecided). writtenAll lent (d .moves)) _ _ refl (fronted-none _ lent)
 
   -- and what a tidying does holds of it
-  pub lent-tidies : stands r ≡ true → TidiesLent (tableOf r) lent (tidiedTable (tidyRoster r lent)) lent′
-  lent-tidies s =
-      tidies-lent (tableOf r) lent (tidiedTable (tidyRoster r lent)) lent′ tidied (f ∙ ap (λ (d : TidyDecided). writtenAll lent (d .moves)) is) (stands-rules r s)
+  pub lent-tidies : (stands r ≡ true → Keeps r (length lent) (decideTidyRoster r (length lent))) → stands r ≡ true → TidiesHeldLent r lent (tidyRoster r lent) lent′
+  lent-tidies keeps s = record {
+    again = keeps s .again;
+    tidies = tidies-lent (tableOf r) lent (tidiedTable (tidyRoster r lent)) lent′ tidied (f ∙ ap (λ (d : TidyDecided). writtenAll lent (d .moves)) is) (stands-rules r s);
+  }
     where
       is : decideTidyRoster r (length lent) ≡ tidyingArranged (decideTidyOf (tableOf r) (length lent))
       is = lifted-given r _ _ s
 
-      back : tableOf (tidyRoster r lent .roster) ≡ decideTidyOf (tableOf r) (length lent) .tidied .table
-      back =
-          ap (λ (d : TidyDecided). tableOf (d .tidied .roster)) is
-          ∙ there-and-back (decideTidyOf (tableOf r) (length lent) .tidied .table) (tidy-rules (tableOf r) (stands-rules r s) (length lent)) (tidied-typed r (length lent) s)
-
       tidied : tidiedTable (tidyRoster r lent) ≡ tidyOf (tableOf r) lent
-      tidied = λ i. record { table = back i; answer = ap (λ (d : TidyDecided). d .tidied .answer) is i }
+      tidied = λ i. record { table = keeps s .back i; answer = is i .tidied .answer }
 
 -- for `search (needs, tidying)`
 pub ruleset tidying = (stands-most, tidy-meets, tidied-meets, tested, untested)

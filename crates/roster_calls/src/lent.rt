@@ -6,10 +6,10 @@ ghost use lib.ListN.{length};
 ghost use Rattle.refusals.specs.Answer.{answerBy};
 ghost use Rattle.ring.specs.Answer.{openingAnswer, tidyingAnswer};
 ghost use Rattle.ring.specs.Numbers.{openValues, tidyValues};
-ghost use Rattle.ring.specs.Tidies.{TidiesLent};
 ghost use Rattle.roster.specs.Roster.{tableOf, stands};
-ghost use Rattle.roster_calls.specs.Calls.{openRoster, openRosterLent, openRosterReasons, tidyRoster, tidyRosterLent, tidyRosterReasons, tidiedTable};
+ghost use Rattle.roster_calls.specs.Calls.{openRoster, openRosterLent, openRosterReasons, tidyRoster, tidyRosterLent, tidyRosterReasons};
 ghost use Rattle.roster_calls.specs.Demand3.{Demand3HeldLent};
+ghost use Rattle.roster_calls.specs.Tidies.{TidiesHeldLent};
 use crate::Opened;
 use crate::Tidied;
 use crate::opening::decide;
@@ -37,7 +37,7 @@ pub fn tidy(roster: Roster, moves: &mut [Move]) -> Tidied
     ensures answer { λ r. ⌜ r ≡ tidyRoster roster (now (moves .entry)) ⌝ }
     ensures list { λ _. ⌜ now (moves .exit) ≡ tidyRosterLent roster (now (moves .entry)) ⌝ }
     ensures numbers { λ r. ⌜ tidyingAnswer (r .answer) ≡ answerBy (tidyRosterReasons roster (length (now (moves .entry)))) (tidyValues (tableOf roster)) ⌝ }
-    ensures tidies { λ r. ⌜ (stands roster ≡ true → TidiesLent (tableOf roster) (now (moves .entry)) (tidiedTable r) (now (moves .exit))) ⌝ }
+    ensures tidies { λ r. ⌜ (stands roster ≡ true → TidiesHeldLent roster (now (moves .entry)) r (now (moves .exit))) ⌝ }
 {
     let decision = decide_tidy(roster, moves.len());
     moves::write_list(moves, decision.moves);

@@ -6,9 +6,9 @@ ghost use Rattle.moves.specs.MoveList.{recorded};
 ghost use Rattle.refusals.specs.Answer.{answerBy};
 ghost use Rattle.ring.specs.Answer.{tidyingAnswer};
 ghost use Rattle.ring.specs.Numbers.{tidyValues};
-ghost use Rattle.ring.specs.Tidies.{TidiesBy};
 ghost use Rattle.roster.specs.Roster.{tableOf, stands};
-ghost use Rattle.roster_calls.specs.Calls.{decideTidyRoster, tidyRosterReasons, tidiedTable};
+ghost use Rattle.roster_calls.specs.Calls.{decideTidyRoster, tidyRosterReasons};
+ghost use Rattle.roster_calls.specs.Tidies.{TidiesHeld};
 use crate::Tidied;
 use crate::TidyDecided;
 use moves::MoveList;
@@ -22,7 +22,7 @@ pub fn decide_tidy_valid(roster: Roster, lent: usize) -> TidyDecided
     ensures answer { λ r. ⌜ r ≡ decideTidyRoster roster lent ⌝ }
     ensures numbers { λ r. ⌜ tidyingAnswer (r .tidied .answer) ≡ answerBy (tidyRosterReasons roster lent) (tidyValues (tableOf roster)) ⌝ }
     ensures stands { λ r. ⌜ stands (r .tidied .roster) ≡ true ⌝ }
-    ensures tidies { λ r. ⌜ TidiesBy (tableOf roster) lent (tidiedTable (r .tidied)) (recorded (r .moves)) ⌝ }
+    ensures tidies { λ r. ⌜ TidiesHeld roster lent (r .tidied) (recorded (r .moves)) ⌝ }
 {
     let table = roster.table_valid();
     let decision = table.decide_tidy_valid(lent);
@@ -43,7 +43,7 @@ pub fn decide_tidy_valid(roster: Roster, lent: usize) -> TidyDecided
 pub fn decide_tidy(roster: Roster, lent: usize) -> TidyDecided
     ensures answer { λ r. ⌜ r ≡ decideTidyRoster roster lent ⌝ }
     ensures numbers { λ r. ⌜ tidyingAnswer (r .tidied .answer) ≡ answerBy (tidyRosterReasons roster lent) (tidyValues (tableOf roster)) ⌝ }
-    ensures tidies { λ r. ⌜ (stands roster ≡ true → TidiesBy (tableOf roster) lent (tidiedTable (r .tidied)) (recorded (r .moves))) ⌝ }
+    ensures tidies { λ r. ⌜ (stands roster ≡ true → TidiesHeld roster lent (r .tidied) (recorded (r .moves))) ⌝ }
 {
     if !roster.stands() {
         return TidyDecided {

@@ -54,12 +54,12 @@ module _ {M : Type 1} (𝓤 : URA M) (H : Heap 𝓤) (A : Atoms 𝓤) (mem : Mem
   abbrev Write : Contract 𝓤
   Write = tripleOf 𝓤 H A write-list.signature (write-list.spec 𝓤 H A mem run)
 
-  -- of what `decide_tidy` ensures, the first clause: it has no `&mut`
-  decided : (t : Roster) (n : ℕ) (r : TidyDecided) → ent 𝓤 (ensured 𝓤 H A decide.ended (decide.clauses 𝓤 H A mem run) tt (t, (n, tt)) tt r) (fact 𝓤 (r ≡ decideTidyRoster t n))
-  decided t n r =
-      let first = fact 𝓤 (r ≡ decideTidyRoster t n) in
-      let others = sep 𝓤 (fact 𝓤 (Numbered t n r)) (fact 𝓤 (stands t ≡ true → Keeps t n r)) in
-      exE 𝓤 _ (λ ws. via 𝓤 (sep 𝓤 first others) (snd∗ 𝓤 (sem 𝓤 H A (lasts decide.ended tt (t, (n, tt)) ws)) (sep 𝓤 first others)) (fst∗ 𝓤 first others))
+  -- what `decide_tidy` ensures: it has no `&mut`
+  abbrev Ensured : Roster → ℕ → TidyDecided → SProp 𝓤
+  Ensured t n r = sep 𝓤 (fact 𝓤 (r ≡ decideTidyRoster t n)) (sep 𝓤 (fact 𝓤 (Numbered t n r)) (fact 𝓤 (stands t ≡ true → Keeps t n r)))
+
+  decided : (t : Roster) (n : ℕ) (r : TidyDecided) → ent 𝓤 (ensured 𝓤 H A decide.ended (decide.clauses 𝓤 H A mem run) tt (t, (n, tt)) tt r) (Ensured t n r)
+  decided t n r = exE 𝓤 _ (λ ws. snd∗ 𝓤 (sem 𝓤 H A (lasts decide.ended tt (t, (n, tt)) ws)) (Ensured t n r))
 
 -- κ is the borrow's lifetime and q the share of its token; the list ys stands at (b, o), and γ names the borrow
 module _ {M : Type 1} (𝓤 : URA M) (H : Heap 𝓤) (A : Atoms 𝓤) (W : Given 𝓤 H A) (mem : Memory → SProp 𝓤) (run : Routine → Fun 𝓤) (κ : Lft) (q : Share) (b o : ℕ) (γ : GName) (ys : List Move) (t : Roster)
@@ -83,7 +83,7 @@ module _ {M : Type 1} (𝓤 : URA M) (H : Heap 𝓤) (A : Atoms 𝓤) (W : Given
   abbrev vals : List Val × (List Val × Unit {0})
   vals = (vt ∷ [], (s ∷ [], tt))
 
-  -- what `decide_tidy` answers, the machine values of its parts, and that they are a decision's
+  -- what `decide_tidy` answers, the machine values of its parts, and that they are a decision's, which does what a tidying does
   abbrev d : TidyDecided
   d = decideTidyRoster t (length ys)
 
@@ -94,7 +94,7 @@ module _ {M : Type 1} (𝓤 : URA M) (H : Heap 𝓤) (A : Atoms 𝓤) (W : Given
   sent = LL.val U.the-type U′.the-laws (d .moves)
 
   abbrev Answer : Type 0
-  Answer = Is D.the-row d (LL.vals D.the-type D′.the-laws d)
+  Answer = Is D.the-row d (LL.vals D.the-type D′.the-laws d) × (stands t ≡ true → Keeps t (length ys) d)
 
   abbrev Entry : SProp 𝓤
   Entry = onEntry 𝓤 H A tidy.signature (κ, tt) (q, tt) a vals
@@ -118,29 +118,31 @@ module _ {M : Type 1} (𝓤 : URA M) (H : Heap 𝓤) (A : Atoms 𝓤) (W : Given
   goes-write is =
       qed W ((‵ (flft κ q) ⊛ ‵ ftrue) ∷ ‵ (owns (T.the-row ∷ MutSlice (named 0) κ N.the-row ∷ []) a vals) ∷ []) ∵
       move ! (1 ∷ []) $ fsplit ! $ drop ! $ fsplit ! $ keep ! (2 ∷ 0 ∷ []) $
-      nothing ! $ nothing ! $ made ! U.the-type U′.the-plain (d .moves) _ (LL.owed D.the-type D′.the-laws d _ is .1 .0) $ fjoin ! $ move ! (3 ∷ 0 ∷ []) $ fjoin ! $ move ! (2 ∷ 0 ∷ []) $ join ! $ frame ! $ done !
+      nothing ! $ nothing ! $ made ! U.the-type U′.the-plain (d .moves) _ (LL.owed D.the-type D′.the-laws d _ (is .0) .1 .0) $ fjoin ! $ move ! (3 ∷ 0 ∷ []) $ fjoin ! $ move ! (2 ∷ 0 ∷ []) $ join ! $ frame ! $ done !
 
   -- what each leaves: `decide_tidy` its answer, and `write_list` the list, with which the walk has ended
   same : (v : Val) (r : TidyDecided) → r ≡ d → Is D.the-row r (v ∷ []) → v ∷ [] ≡ LL.vals D.the-type D′.the-laws d
   same v r e is = LL.tells D.the-type D′.the-laws r _ is ∙ ap (LL.vals D.the-type D′.the-laws) e
 
-  known : (v : Val) (r : TidyDecided) → r ≡ d → Is D.the-row r (v ∷ []) → Answer
-  known v r e is = subst (Is D.the-row d) (same v r e is) (subst (λ (u : TidyDecided). Is D.the-row u (v ∷ [])) e is)
+  known : (v : Val) (r : TidyDecided) → r ≡ d → (stands t ≡ true → Keeps t (length ys) r) → Is D.the-row r (v ∷ []) → Answer
+  known v r e k is = (subst (Is D.the-row d) (same v r e is) (subst (λ (u : TidyDecided). Is D.the-row u (v ∷ [])) e is), λ s. subst (Keeps t (length ys)) e (k s))
 
   tells : (v : Val) → ent 𝓤 (Decide 𝓤 H A mem run .post to-decide v) (mean 𝓤 H A (L.Decided 𝓤 Answer kept sent v))
   tells v =
       qed W (later (some (λ (r : TidyDecided). (‵ ftrue ⊛ ‵ (D.the-row .own r (v ∷ []))) ⊛ raw (ensured 𝓤 H A decide.ended (decide.clauses 𝓤 H A mem run) tt (t, (length ys, tt)) tt r))) ∷ []) ∵
       updating ! $ await ! tt $ now ! $ pick ! (λ r.
-      split ! $ move ! (1 ∷ []) $ use1 W (raw (fact 𝓤 (r ≡ d))) (decided 𝓤 H A mem run t (length ys) r) $ heard ! (r ≡ d) (λ e. split ! $ drop ! $
-      facts ! D.the-row (Is D.the-row) (shows 𝓤 H A D.the-row) r (v ∷ []) (λ is. check ! (known v r e is) $ check ! (ap only (same v r e is)) $ done !)))
+      split ! $ move ! (1 ∷ []) $
+      use1 W (raw (fact 𝓤 (r ≡ d)) ⊛ (raw (fact 𝓤 (Numbered t (length ys) r)) ⊛ raw (fact 𝓤 (stands t ≡ true → Keeps t (length ys) r)))) (decided 𝓤 H A mem run t (length ys) r) $
+      split ! $ heard ! (r ≡ d) (λ e. split ! $ drop ! $ heard ! (stands t ≡ true → Keeps t (length ys) r) (λ k. split ! $ drop ! $
+      facts ! D.the-row (Is D.the-row) (shows 𝓤 H A D.the-row) r (v ∷ []) (λ is. check ! (known v r e k is) $ check ! (ap only (same v r e is)) $ done !))))
 
   exits : Answer → (zs : List Move) → zs ≡ writtenAll ys (d .moves) → length zs ≡ length ys → ent 𝓤 (sep 𝓤 (sep 𝓤 (A .lft κ q) (sem 𝓤 H A ftrue)) (sem 𝓤 H A (finally N.the-row γ zs))) (Post kept)
   exits is zs f l =
       qed W ((‵ (flft κ q) ⊛ ‵ ftrue) ∷ ‵ (finally N.the-row γ zs) ∷ []) ∵
       suffices ! _ (ends-at 𝓤 H A tidy.ended stayed (tidy.clauses 𝓤 H A mem run) W (((κ, tt), (q, tt), tt, a, vals), tt) _ (d .tidied) (tt, (zs, tt)) (tt, (l, tt))) $
-      says4 ! refl (lent-is t ys zs f) (roster-numbers t (length ys)) (lent-tidies t ys zs f) $ frame ! $
+      says4 ! refl (lent-is t ys zs f) (roster-numbers t (length ys)) (lent-tidies t ys zs f (is .1)) $ frame ! $
       nothing ! $ move ! (1 ∷ 0 ∷ []) $ fjoin ! $ made ! T.the-type T′.the-plain t _ is-t $ fjoin ! $
-      made ! O.the-type O′.the-plain (d .tidied) _ (LL.owed D.the-type D′.the-laws d _ is .0) $ move ! (1 ∷ 0 ∷ []) $ done !
+      made ! O.the-type O′.the-plain (d .tidied) _ (LL.owed D.the-type D′.the-laws d _ (is .0) .0) $ move ! (1 ∷ 0 ∷ []) $ done !
 
   leaves : Answer → (w : Val) → ent 𝓤 (Write 𝓤 H A mem run .post to-write w) (mean 𝓤 H A (L.Handed 𝓤 (Post kept) w))
   leaves is w =
@@ -162,7 +164,7 @@ module _ {M : Type 1} (𝓤 : URA M) (H : Heap 𝓤) (A : Atoms 𝓤) (W : Given
     walk : ent 𝓤 Entry (WpFn 𝓤 H C Λ code.function (vt ∷ s ∷ []) Post)
     walk = L.walk-one 𝓤 H A W C Λ fm the-types #roster·decide-tidy #moves·write-list b o (length ys) Entry Answer kept sent Post T′.mir vt (room .0)
         (LL.lawful T.the-type T′.the-laws 𝓤 H A W .typed t _ is-t .0)
-        (λ is. LL.lawful D.the-type D′.the-laws 𝓤 H A W .typed d _ is .0) (λ is. LL.lawful O.the-type O′.the-laws 𝓤 H A W .typed (d .tidied) _ (LL.owed D.the-type D′.the-laws d _ is .0) .0)
+        (λ is. LL.lawful D.the-type D′.the-laws 𝓤 H A W .typed d _ (is .0) .0) (λ is. LL.lawful O.the-type O′.the-laws 𝓤 H A W .typed (d .tidied) _ (LL.owed D.the-type D′.the-laws d _ (is .0) .0) .0)
         decides hands
 
 module _ {M : Type 1} (𝓤 : URA M) (H : Heap 𝓤) (A : Atoms 𝓤) (W : Given 𝓤 H A) (mem : Memory → SProp 𝓤) (run : Routine → Fun 𝓤) where
