@@ -29,6 +29,6 @@ take-length-take zero s = refl
 take-length-take (suc n) [] = refl
 take-length-take (suc n) (x ∷ s) = ap (λ (r : List Move). x ∷ r) (take-length-take n s)
 
--- copied one after the other, all moves by value make what they make of a list that has room for them
+-- all the moves by value, copied to a list that has room for them, are written there
 pub copied-written-all : (l : List Move) (a : MoveList) (n : ℕ) → n ≡ length (recorded a) → n ≤ length l → copied (a .list) l n ≡ writtenAll l a
 copied-written-all l a n e h = rw e (rw (take-length-take (a .count) (a .list)) (sym (fronted-long _ (recorded a) l (omega arith))))

@@ -1,4 +1,4 @@
--- 02, E5: the moves of a tidying by value, and what the list of move records that a host lends holds after it. Assumes nothing.
+-- 02, E5: up to 128 moves by value, those of a tidying, and what the list of move records that a host lends holds after it. Assumes nothing.
 -- What `RingTable::tidy`, `decide_tidy` and `decide_tidy_valid` promise.
 use Prim.Native.Nat.{_-_}
 use mathlib.Core.List.{List, _++_}
@@ -9,7 +9,7 @@ use Rattle.moves.specs.declared.MoveList.{MoveList}
 use Rattle.moves.specs.Records.{blank}
 use Rattle.moves.specs.Lent.{fronted}
 
--- the moves of a tidying, in their order: as many of the list as its count says, and all of them where it says more
+-- the moves, in their order: as many of the list as its count says, and all of them where it says more
 abbrev pub recorded : MoveList → List Move
 recorded a = take (a .count) (a .list)
 

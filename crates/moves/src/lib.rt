@@ -31,7 +31,7 @@ pub struct Moves {
     pub third: Move,
 }
 
-// The moves of a tidying by value, in their order: the first `count` of the list.
+// Up to 128 moves by value, in their order: the first `count` of the list.
 pub struct MoveList {
     pub count: usize,
     pub list: [Move; TIDY_RECORDS],
