@@ -11,8 +11,7 @@ use borrow.Author.Tests.{not-true}
 use Rattle.limits.specs.Limits.{placeCount, leastRecords}
 use Rattle.lightpath.specs.Circuit.{hops}
 use Rattle.lightpath.specs.declared.Circuit.{Circuit}
-use Rattle.lit_words.specs.Lit.{noneLitFrom}
-use Rattle.channels.specs.Channels.{Channels, litAt}
+use Rattle.channels.specs.Channels.{Channels}
 use Rattle.channels.specs.Change.{puts}
 use Rattle.channels.specs.Changes.{inOrder}
 use Rattle.channels.specs.declared.Standing.{Standing}
@@ -145,9 +144,6 @@ module _ (t : RingTable) (c : Circuit) (rules : meetsRules t ≡ true) (m : ℕ)
   pub survey-low : m ≤ placeCount
   survey-low = omega (arith, limit, table-limits t rules .below)
 
-  pub survey-dark : noneLitFrom m (litAt (t .channels)) ≡ true
-  survey-dark = rw limit (table-rules t rules .unused)
-
   module _ (v : Survey) (seen : v ≡ surveyOf (t .nodes) m (t .channels) c) (w : Verdict)
       (is : w ≡ judged (
       (NumberLive if ltb 0 (v .numbered))
@@ -172,4 +168,4 @@ module _ (t : RingTable) (c : Circuit) (rules : meetsRules t ≡ true) (m : ℕ)
         rw limit (ready (t .nodes) (t .ports) (t .channels) c (table-rules t rules) (allowable t c all))
 
 -- for `search (needs, deciding)`
-pub ruleset deciding = (decide-refused, decide-granted, named-granted, survey-some, survey-low, survey-dark, used-refused, used-granted, used-ready)
+pub ruleset deciding = (decide-refused, decide-granted, named-granted, survey-some, survey-low, used-refused, used-granted, used-ready)

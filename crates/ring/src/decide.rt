@@ -79,8 +79,7 @@ impl RingTable {
         let ports = self.ports;
         let channels = self.channels;
         let limit = ports::place_limit(ports);
-        // By the ring rules no place from the limit up is lit.
-        let seen = survey::survey_places(nodes, limit, limit, channels, circuit);
+        let seen = survey::survey_places(nodes, limit, channels, circuit);
         let verdict = causes::used_verdict(ports, circuit, seen);
         match verdict {
             Verdict::Granted => self.serve(circuit, limit, seen),

@@ -18,7 +18,7 @@ use Rattle.circuit_lists.specs.Gathering.{Gathers}
 use Rattle.ports.specs.Ports.{limitOf, limits, spareZero}
 use Rattle.rules.specs.Rules.{sized, unlitFrom, ends, portsHold, shares, ringRules}
 use Rattle.rules.specs.EachPlace.{placesHold}
-use Rattle.rules.proofs.EachPlace.{three-rules}
+use Rattle.rules.proofs.EachPlace.{two-rules}
 
 -- within the limits a ring has nodes
 pub some-nodes : (N : ℕ) (ks : List ℕ) (r : Bool) → r ≡ limits N ks → r ≡ true → 0 < N
@@ -40,14 +40,14 @@ module _ (N : ℕ) (ks : List ℕ) (t : Channels) where
   pub stop-limits : (r : Bool) → r ≡ limits N ks → r ≡ false → false ≡ ringRules N ks t
   stop-limits r e h = stop _ r e h (λ a. search (and-left, and-right) depth 8)
 
-  -- a place
-  pub stop-places : (m : ℕ) (r : Bool) → m ≡ limitOf ks → r ≡ placesHold N m t → r ≡ false → false ≡ ringRules N ks t
-  stop-places m r l e h =
-      stop (placesHold N (limitOf ks) t) r (rw l at e) h (λ a. three-rules N (limitOf ks) t ∙ and-both _ _ (unlit a) (and-both _ _ (joined a) (sharing a)))
-    where
-      unlit : ringRules N ks t ≡ true → unlitFrom (limitOf ks) t ≡ true
-      unlit a = search (and-left, and-right) depth 8
+  -- a lit place from the limit up
+  pub stop-unlit : (m : ℕ) (r : Bool) → m ≡ limitOf ks → r ≡ unlitFrom m t → r ≡ false → false ≡ ringRules N ks t
+  stop-unlit m r l e h = stop (unlitFrom (limitOf ks) t) r (rw l at e) h (λ a. search (and-left, and-right) depth 8)
 
+  -- what a place holds
+  pub stop-places : (r : Bool) → r ≡ placesHold N t → r ≡ false → false ≡ ringRules N ks t
+  stop-places r e h = stop (placesHold N t) r e h (λ a. two-rules N t ∙ and-both _ _ (joined a) (sharing a))
+    where
       joined : ringRules N ks t ≡ true → everyBelow placeCount (λ p. ends N (at t p)) ≡ true
       joined a = search (and-left, and-right) depth 8
 
@@ -66,25 +66,26 @@ module _ (N : ℕ) (ks : List ℕ) (t : Channels) where
     stop-ports r all e h = stop (portsHold 1 ks (circuits t)) r (rw (all .are) at e) h (λ a. search (and-left, and-right) depth 8)
 
   -- all of these hold, and the answer is the last rule's
-  pub go-on : (m n : ℕ) (list : List Circuit) (r₁ r₂ r₃ r₄ r : Bool) → Gathers circuitRoom list n (circuits t) → length ks ≡ portFields
+  pub go-on : (m n : ℕ) (list : List Circuit) (r₁ r₂ r₃ r₄ r₅ r : Bool) → Gathers circuitRoom list n (circuits t) → length ks ≡ portFields
       → length t ≡ placeCount
       → r₁ ≡ limits N ks → r₁ ≡ true
-      → m ≡ limitOf ks → r₂ ≡ placesHold N m t → r₂ ≡ true
-      → r₃ ≡ distinct (λ c. c .number) (take n list) → r₃ ≡ true
-      → r₄ ≡ portsHold 1 ks (take n list) → r₄ ≡ true
+      → m ≡ limitOf ks → r₂ ≡ unlitFrom m t → r₂ ≡ true
+      → r₃ ≡ placesHold N t → r₃ ≡ true
+      → r₄ ≡ distinct (λ c. c .number) (take n list) → r₄ ≡ true
+      → r₅ ≡ portsHold 1 ks (take n list) → r₅ ≡ true
       → r ≡ spareZero N ks → r ≡ ringRules N ks t
-  go-on m n list r₁ r₂ r₃ r₄ r all fields places e₁ h₁ l e₂ h₂ e₃ h₃ e₄ h₄ e =
+  go-on m n list r₁ r₂ r₃ r₄ r₅ r all fields places e₁ h₁ l e₂ h₂ e₃ h₃ e₄ h₄ e₅ h₅ e =
       and-true _ _ r
       (and-both _ _
       (and-both _ _
-      (and-both _ _ (and-both _ _ (and-both _ _ (and-both _ _ (sym e₁ ∙ h₁) sizes) (and-left _ _ three)) (and-left _ _ (and-right (unlitFrom (limitOf ks) t) _ three)))
-      (sym (rw (all .are) at e₃) ∙ h₃))
+      (and-both _ _ (and-both _ _ (and-both _ _ (and-both _ _ (sym e₁ ∙ h₁) sizes) (sym (rw l at e₂) ∙ h₂)) (and-left _ _ both))
       (sym (rw (all .are) at e₄) ∙ h₄))
-      (and-right (everyBelow placeCount (λ p. ends N (at t p))) _ (and-right (unlitFrom (limitOf ks) t) _ three)))
+      (sym (rw (all .are) at e₅) ∙ h₅))
+      (and-right (everyBelow placeCount (λ p. ends N (at t p))) _ both))
       e
     where
       sizes : sized ks t ≡ true
       sizes = and-both _ _ (eq-eqb (length ks) portFields fields) (eq-eqb (length t) placeCount places)
 
-      three : (unlitFrom (limitOf ks) t && (everyBelow placeCount (λ p. ends N (at t p)) && everyBelow placeCount (λ p. shares N p (at t p)))) ≡ true
-      three = sym (three-rules N (limitOf ks) t) ∙ sym (rw l at e₂) ∙ h₂
+      both : (everyBelow placeCount (λ p. ends N (at t p)) && everyBelow placeCount (λ p. shares N p (at t p))) ≡ true
+      both = sym (two-rules N t) ∙ sym e₃ ∙ h₃

@@ -1,11 +1,10 @@
 -- The rules of one place decided test by test, and of every place by one loop. Each law takes a callee's answer and the branch's test as
 -- they stand in the record of a need, so that `search` finds its premises. Assumes nothing.
 use Prim.Native.Nat.{ℕ, _≤_, _<_}
-use mathlib.Core.Path.{_≡_, refl, sym, ap, _∙_}
-use mathlib.Core.Bool.{Bool, true, false, _&&_, _||_, not, true≢false, and-true}
-use lib.Dec.{ltb}
+use mathlib.Core.Path.{_≡_, sym, _∙_}
+use mathlib.Core.Bool.{Bool, true, false, _&&_, true≢false, and-true}
 use native.Mathlib.Omega.{arith}
-use borrow.Author.Tests.{lt-ltb, le-ltb, not-true, not-false}
+use borrow.Author.Tests.{lt-ltb, not-true, not-false}
 use Rattle.basis.specs.Search.{everyBelow}
 use Rattle.basis.proofs.Bools.{fails}
 use Rattle.basis.proofs.Search.{every-and}
@@ -15,13 +14,11 @@ use Rattle.lightpath.specs.Place.{directionOf}
 use Rattle.lightpath.specs.Circuit.{joins, canShare}
 use Rattle.lightpath.specs.declared.Circuit.{Circuit}
 use Rattle.lightpath.specs.declared.Direction.{Direction}
-use Rattle.slots.specs.Slot.{isLit, isUnlit}
 use Rattle.slots.specs.declared.Slot.{Slot}
-use Rattle.slots.specs.declared.Slot.the-variants.{Unlit as unlit, Alone as alone, Shared as shared}
-use Rattle.lit_words.specs.Lit.{noneLitFrom}
-use Rattle.channels.specs.Channels.{Channels, at, litAt}
-use Rattle.rules.specs.Rules.{unlitFrom, ends, shares, fits}
-use Rattle.rules.specs.EachPlace.{placeHolds, placesHold}
+use Rattle.slots.specs.declared.Slot.the-variants.{Alone as alone, Shared as shared}
+use Rattle.channels.specs.Channels.{Channels, at}
+use Rattle.rules.specs.Rules.{ends, shares, fits}
+use Rattle.rules.specs.EachPlace.{placesHold}
 use Rattle.rules.proofs.Fits.{Couple, couple}
 
 module _ (N p : ℕ) (a b : Circuit) where
@@ -56,36 +53,18 @@ module _ (N p : ℕ) (s : Slot) (r : Bool) where
   pub shared-decides : (a b : Circuit) → s ≡ shared a b → r ≡ fits N p (shared a b) → r ≡ fits N p s
   shared-decides a b k e = rw k e
 
--- from the limit up a place has to be unlit, and then it holds nothing
-pub above-decides : (N m p : ℕ) (s : Slot) (r : Bool) → m ≤ p → r ≡ isUnlit s → r ≡ placeHolds N m p s
-unfolding placeHolds
-above-decides N m p s r l e = e ∙ rw (le-ltb p m l) (go s)
-  where
-    go : (s : Slot) → isUnlit s ≡ (not (isLit s) && fits N p s)
-    go unlit = refl
-    go (alone a) = refl
-    go (shared a b) = refl
-
--- below it what it holds has to fit
-pub below-decides : (N m p : ℕ) (s : Slot) (r : Bool) → p < m → r ≡ fits N p s → r ≡ placeHolds N m p s
-unfolding placeHolds
-below-decides N m p s r l e = e ∙ rw (lt-ltb p m l)
-
-module _ (N m : ℕ) (t : Channels) where
-  -- all places were found to hold
-  pub places-all : (i : ℕ) → Passed (λ p. placeHolds N m p (at t p)) true i → placeCount ≤ i → true ≡ placesHold N m t
+module _ (N : ℕ) (t : Channels) where
+  -- what all places hold was found to fit
+  pub places-all : (i : ℕ) → Passed (λ p. fits N p (at t p)) true i → placeCount ≤ i → true ≡ placesHold N t
   unfolding placesHold
-  places-all i h l = scan-all (λ p. placeHolds N m p (at t p)) placeCount i h l
+  places-all i h l = scan-all (λ p. fits N p (at t p)) placeCount i h l
 
-  -- or one was found not to
-  pub places-fail : (i : ℕ) (r : Bool) → r ≡ placeHolds N m i (at t i) → r ≡ false → i < placeCount → false ≡ placesHold N m t
+  -- or what one holds was found not to
+  pub places-fail : (i : ℕ) (r : Bool) → r ≡ fits N i (at t i) → r ≡ false → i < placeCount → false ≡ placesHold N t
   unfolding placesHold
-  places-fail i r e h l = scan-fail (λ p. placeHolds N m p (at t p)) placeCount i r e h l
+  places-fail i r e h l = scan-fail (λ p. fits N p (at t p)) placeCount i r e h l
 
-  -- what is so tested of every place is three of the ring rules
-  pub three-rules : placesHold N m t
-      ≡ (unlitFrom m t && (everyBelow placeCount (λ p. ends N (at t p)) && everyBelow placeCount (λ p. shares N p (at t p))))
-  unfolding placeHolds placesHold noneLitFrom
-  three-rules =
-      every-and placeCount (λ p. ltb p m || not (litAt t p)) (λ p. fits N p (at t p))
-      ∙ ap (λ (b : Bool). unlitFrom m t && b) (every-and placeCount (λ p. ends N (at t p)) (λ p. shares N p (at t p)))
+  -- what is so tested of every place is two of the ring rules
+  pub two-rules : placesHold N t ≡ (everyBelow placeCount (λ p. ends N (at t p)) && everyBelow placeCount (λ p. shares N p (at t p)))
+  unfolding placesHold
+  two-rules = every-and placeCount (λ p. ends N (at t p)) (λ p. shares N p (at t p))

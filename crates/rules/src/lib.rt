@@ -17,7 +17,10 @@ pub fn ring_rules(nodes: u8, ports: [u8; PORT_FIELDS], channels: [Channel; PLACE
     if !ports::limits_hold(nodes, ports) {
         return false;
     }
-    if !places::places_hold(nodes, ports::place_limit(ports), channels) {
+    if !places::unlit_from(ports::place_limit(ports), channels) {
+        return false;
+    }
+    if !places::places_hold(nodes, channels) {
         return false;
     }
     let circuits = circuit_lists::circuits_of(channels);

@@ -4,13 +4,27 @@ ghost use mathlib.Core.Path.{_≡_};
 ghost use Prim.Native.Nat.{_<_};
 ghost use Rattle.limits.specs.Limits.{placeCount};
 ghost use Rattle.slots.specs.declared.Slot.the-variants.{Shared as shared};
-ghost use Rattle.rules.specs.Rules.{fits};
-ghost use Rattle.rules.specs.EachPlace.{placeHolds, placesHold};
+ghost use Rattle.rules.specs.Rules.{unlitFrom, fits};
+ghost use Rattle.rules.specs.EachPlace.{placesHold};
 use channels::Channel;
 use lightpath::Circuit;
 use lightpath::Place;
 use limits::PLACE_COUNT;
 use slots::Slot;
+
+// Whether no place from a limit up is lit.
+pub fn unlit_from(limit: usize, channels: [Channel; PLACE_COUNT]) -> bool
+    ensures { λ r. ⌜ r ≡ unlitFrom limit channels ⌝ }
+{
+    for place in limit..PLACE_COUNT {
+        let channel = channels[place];
+        let slot = channel.slot;
+        if !slot.is_unlit() {
+            return false;
+        }
+    }
+    true
+}
 
 // Whether two circuits may stand at a place: both have ends on the ring and different, the lower number is first, and they can share in
 // the place's direction.
@@ -44,26 +58,15 @@ fn slot_fits(nodes: u8, place: usize, slot: Slot) -> bool
     }
 }
 
-// Whether a place is below the limit or unlit, and what it holds may stand there.
-fn place_holds(nodes: u8, limit: usize, place: usize, slot: Slot) -> bool
-    requires { ⌜ (0 < nodes) × (place < placeCount) ⌝ }
-    ensures { λ r. ⌜ r ≡ placeHolds nodes limit place slot ⌝ }
-{
-    if limit <= place {
-        return slot.is_unlit();
-    }
-    slot_fits(nodes, place, slot)
-}
-
-// Whether every place is below the limit or unlit, and what it holds may stand there.
-pub fn places_hold(nodes: u8, limit: usize, channels: [Channel; PLACE_COUNT]) -> bool
+// Whether what every place holds is on the ring and may stand there.
+pub fn places_hold(nodes: u8, channels: [Channel; PLACE_COUNT]) -> bool
     requires { ⌜ 0 < nodes ⌝ }
-    ensures { λ r. ⌜ r ≡ placesHold nodes limit channels ⌝ }
+    ensures { λ r. ⌜ r ≡ placesHold nodes channels ⌝ }
 {
     for place in 0..PLACE_COUNT {
         let channel = channels[place];
         let slot = channel.slot;
-        if !place_holds(nodes, limit, place, slot) {
+        if !slot_fits(nodes, place, slot) {
             return false;
         }
     }

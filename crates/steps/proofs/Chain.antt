@@ -85,7 +85,7 @@ module _ (N : ℕ) (ks : List ℕ) (t : Channels) (gone new : List Circuit) (t�
 pub nothing-kept : (N : ℕ) (ks : List ℕ) (t : Channels) → Rules N ks t → Kept N ks t [] [] t []
 nothing-kept N ks t rules =
     keeps N ks t [] [] [] [] [] rules (rules .numbers) (rules .ports)
-    (record { apart = tt; within = tt; fit = tt; took = λ w. refl; gave = λ w. refl; stayed = tt; went = tt }) tt
+    (record { apart = tt; within = tt; fit = tt; took = λ w. refl; gave = λ w. refl; stayed = tt; went = tt }) (rules .unused)
 
 -- each circuit of the first table, and each new one, is found in the second under its number, with all its fields
 pub kept-found : (N : ℕ) (ks : List ℕ) (t : Channels) (new : List Circuit) (t′ : Channels) (ms : List Move) → Kept N ks t [] new t′ ms

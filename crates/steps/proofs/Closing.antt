@@ -1,7 +1,7 @@
 -- "Closing takes the circuit off and moves none": exactly that circuit goes, every other place is as it was, and the ring rules are met
 -- again. Assumes nothing.
 use Prim.Native.Nat.{ℕ, _<_}
-use mathlib.Core.Path.{_≡_, refl}
+use mathlib.Core.Path.{_≡_, refl, _∙_}
 use mathlib.Core.Logic.{_≢_, inl}
 use mathlib.Core.Bool.{true}
 use mathlib.Core.List.{List, [], _∷_}
@@ -12,13 +12,16 @@ use Rattle.basis.proofs.Weigh.{counted}
 use Rattle.limits.specs.Limits.{placeCount}
 use Rattle.lightpath.specs.declared.Circuit.{Circuit}
 use Rattle.slots.specs.Slot.{held, without}
+use Rattle.slots.specs.declared.Slot.the-variants.{Unlit as unlit}
 use Rattle.slots.proofs.Contents.{ofNumber, Parted, parted}
 use Rattle.channels.specs.Channels.{Channels, at, live, whereIs, circuitOf}
 use Rattle.channels.specs.Closing.{closing, closed}
 use Rattle.channels.specs.declared.Standing.{Standing}
 use Rattle.channels.proofs.Puts.{puts-there}
 use Rattle.channels.proofs.Numbers.{found-there, live-placed}
+use Rattle.ports.specs.Ports.{limitOf}
 use Rattle.rules.proofs.Rules.{Rules, limits-hold}
+use Rattle.rules.proofs.Unlit.{unlit-still}
 use Rattle.rules.proofs.Fits.{without-fits}
 use Rattle.steps.specs.Kept.{Kept}
 use Rattle.steps.proofs.Sound.{Gets, Has, Sound, keeps}
@@ -37,6 +40,10 @@ standing-weighs w q (x ∷ xs) = omega (arith, standing-weighs w q xs)
 standing-all : (P : ℕ → Circuit → Type 0) (q : ℕ) (xs : List Circuit) → All (P q) xs → All (λ m. P (m .place) (m .circuit)) (standing q xs)
 standing-all P q [] h = tt
 standing-all P q (x ∷ xs) h = (h .0, standing-all P q xs (h .1))
+
+-- every other place is as it was
+pub close-there : (t : Channels) (n q : ℕ) → q ≢ whereIs t n → at (closed t n) q ≡ at t q
+close-there t n q h = puts-there (closing t n) t q (h, tt)
 
 module _ (N : ℕ) (ks : List ℕ) (t : Channels) (rules : Rules N ks t) (n : ℕ) (l : live t n ≡ true) where
   -- the circuit has a place
@@ -66,12 +73,12 @@ module _ (N : ℕ) (ks : List ℕ) (t : Channels) (rules : Rules N ks t) (n : �
     went = tt;
   }
 
+  -- an unlit place is another, and stays so
+  still-unlit : (p : ℕ) → at t p ≡ unlit → at (closed t n) p ≡ unlit
+  still-unlit p e = close-there t n p (λ w. let h = rw (← w, e) at (found-there t n placed) in absurd (omega arith)) ∙ e
+
   -- exactly that circuit goes, and no other moves
   pub closes : Kept N ks t (circuitOf t n ∷ []) [] (closed t n) []
   closes =
       keeps N ks t (circuitOf t n ∷ []) [] (closing t n) (standing (whereIs t n) left) [] rules (rules .numbers) (rules .ports) sound
-      (λ h e. rw e, tt)
-
--- every other place is as it was
-pub close-there : (t : Channels) (n q : ℕ) → q ≢ whereIs t n → at (closed t n) q ≡ at t q
-close-there t n q h = puts-there (closing t n) t q (h, tt)
+      (unlit-still (limitOf ks) t (closed t n) (rules .unused) (λ p l e. still-unlit p e))

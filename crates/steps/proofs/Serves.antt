@@ -1,22 +1,23 @@
 -- Sound changes below the limit open a circuit, whatever step made them. Assumes nothing.
 use Prim.Native.Nat.{ℕ, _≤_, _<_}
-use mathlib.Core.Path.{_≡_}
+use mathlib.Core.Path.{_≡_, _∙_}
 use mathlib.Core.Logic.{inl, inr}
+use mathlib.Core.Bool.{true}
 use mathlib.Core.List.{List, [], _∷_}
 use native.Mathlib.Omega.{arith}
 use lib.ListN.{length}
 use Rattle.basis.specs.Count.{All}
-use Rattle.basis.proofs.Bools.{all-map}
 use Rattle.lightpath.specs.declared.Circuit.{Circuit}
-use Rattle.channels.specs.Channels.{Channels, whereIs}
+use Rattle.channels.specs.Channels.{Channels, at, whereIs}
 use Rattle.channels.specs.declared.Change.{Change}
 use Rattle.channels.specs.Change.{puts}
 use Rattle.channels.specs.declared.Standing.{Standing}
 use Rattle.channels.proofs.Puts.{puts-above}
 use Rattle.moves.specs.Records.{mostMoves}
 use Rattle.ports.specs.Ports.{limitOf}
+use Rattle.rules.specs.Rules.{unlitFrom}
 use Rattle.rules.proofs.Rules.{Rules}
-use Rattle.rules.proofs.Unlit.{Dark}
+use Rattle.rules.proofs.Unlit.{unlit-still}
 use Rattle.rules.proofs.Allowable.{Allowable, ports-more, numbers-more}
 use Rattle.steps.specs.Kept.{Kept, PlanKeeps}
 use Rattle.steps.proofs.Sound.{Shift, shifts, shift-length, Gets, Sound, keeps, placed}
@@ -37,16 +38,19 @@ serves N ks t c chs p stay go rules may s low g few =
       kept = all;
       placed = there;
       usable = gets-low (limitOf ks) chs p c low g;
-      above = puts-above (limitOf ks) chs t low;
+      above = above;
       few = omega (arith, shift-length go);
       follows = follows-to N ks t (puts chs t) (shifts go) c p rules all there;
     }
   where
-    dark : Dark (limitOf ks) t chs
-    dark = all-map _ _ (λ ch k h e. absurd (omega arith)) chs low
+    above : (q : ℕ) → limitOf ks ≤ q → at (puts chs t) q ≡ at t q
+    above = puts-above (limitOf ks) chs t low
+
+    unlit : unlitFrom (limitOf ks) (puts chs t) ≡ true
+    unlit = unlit-still (limitOf ks) t (puts chs t) (rules .unused) (λ q l e. above q l ∙ e)
 
     all : Kept N ks t [] (c ∷ []) (puts chs t) (shifts go)
-    all = keeps N ks t [] (c ∷ []) chs stay go rules (numbers-more N ks t c rules may) (ports-more N ks t c rules may) s dark
+    all = keeps N ks t [] (c ∷ []) chs stay go rules (numbers-more N ks t c rules may) (ports-more N ks t c rules may) s unlit
 
     there : whereIs (puts chs t) (c .number) ≡ p
-    there = placed N ks t [] (c ∷ []) chs stay go rules (numbers-more N ks t c rules may) (ports-more N ks t c rules may) s dark p c g
+    there = placed N ks t [] (c ∷ []) chs stay go rules (numbers-more N ks t c rules may) (ports-more N ks t c rules may) s p c g

@@ -27,9 +27,8 @@ use Rattle.channels.proofs.Numbers.{stands-at, dead-nowhere}
 use Rattle.channels.proofs.Nonsharing.{Stands}
 use Rattle.moves.specs.declared.Move.{Move}
 use Rattle.ports.specs.Ports.{limitOf}
-use Rattle.rules.specs.Rules.{fits}
+use Rattle.rules.specs.Rules.{unlitFrom, fits}
 use Rattle.rules.proofs.Rules.{PortsHold, Rules, rules-test, limits-hold}
-use Rattle.rules.proofs.Unlit.{Dark, unlit-puts}
 use Rattle.rules.proofs.Fits.{rules-links}
 use Rattle.steps.specs.Plan.{movesTo}
 use Rattle.steps.specs.Kept.{Kept}
@@ -109,8 +108,7 @@ module _ (N : ℕ) (ks : List ℕ) (t : Channels) (rules : Rules N ks t) where
 
 -- where the new ones' numbers are new and their ports free, all is kept
 module _ (N : ℕ) (ks : List ℕ) (t : Channels) (gone new : List Circuit) (chs : List Change) (stay : List Standing) (go : List Shift) (rules : Rules N ks t)
-    (numbers : distinct (λ c. c .number) (new ++ circuits t) ≡ true) (ports : PortsHold ks (new ++ circuits t)) (s : Sound N t gone new chs stay go)
-    (dark : Dark (limitOf ks) t chs) where
+    (numbers : distinct (λ c. c .number) (new ++ circuits t) ≡ true) (ports : PortsHold ks (new ++ circuits t)) (s : Sound N t gone new chs stay go) where
   -- there are 128 places
   long : length t ≡ placeCount
   long = limits-hold N ks t rules .long
@@ -123,18 +121,22 @@ module _ (N : ℕ) (ks : List ℕ) (t : Channels) (gone new : List Circuit) (chs
   no-more : (w : Circuit → ℕ) → weigh w (circuits (puts chs t)) + weigh w gone ≡ weigh w (new ++ circuits t)
   no-more w = exact w ∙ sym (weigh-append w new (circuits t))
 
-  -- the rules hold again
-  again : Rules N ks (puts chs t)
-  again = record {
+  -- no number stands twice
+  numbers-again : distinct (λ c. c .number) (circuits (puts chs t)) ≡ true
+  numbers-again =
+      most-distinct (λ c. c .number) (circuits (puts chs t))
+      (λ k. omega (arith, no-more (ofNumber k), distinct-most (λ c. c .number) (new ++ circuits t) numbers k))
+
+  -- where places from the limit up are unlit, the rules hold again
+  again : unlitFrom (limitOf ks) (puts chs t) ≡ true → Rules N ks (puts chs t)
+  again unlit = record {
     bounds = rules .bounds;
     sizes = rw (puts-length chs t) (rules .sizes);
-    unused = unlit-puts (limitOf ks) t chs long (s .within) dark (rules .unused);
+    unused = unlit;
     places =
         λ q l. puts-every (λ q s. fits N q s ≡ true) chs t (s .within) (λ q l n. rules .places q (omega (arith, long))) (s .fit) q
         (omega (arith, long));
-    numbers =
-        most-distinct (λ c. c .number) (circuits (puts chs t))
-        (λ k. omega (arith, no-more (ofNumber k), distinct-most (λ c. c .number) (new ++ circuits t) numbers k));
+    numbers = numbers-again;
     ports =
         λ j l. let k = ports j l in (
           omega (arith, k .0, no-more (λ c. bit (eqb (c .source) (suc j)))),
@@ -155,7 +157,7 @@ module _ (N : ℕ) (ks : List ℕ) (t : Channels) (gone new : List Circuit) (chs
 
   -- and that stands there
   new-place : (q : ℕ) (x : Circuit) → Has (puts chs t) q x → whereIs (puts chs t) (x .number) ≡ q
-  new-place q x h = stands-at (puts chs t) (again .numbers) (x .number) q (h .0) (h .1)
+  new-place q x h = stands-at (puts chs t) numbers-again (x .number) q (h .0) (h .1)
 
   -- one at the same place before and after has not moved
   has-stayed : (q : ℕ) (x : Circuit) → Has t q x → Has (puts chs t) q x → bit (moved t (puts chs t) x) ≡ 0
@@ -259,9 +261,9 @@ module _ (N : ℕ) (ks : List ℕ) (t : Channels) (gone new : List Circuit) (chs
   placed q x g = new-place q x (lands q x g)
 
   -- all is kept
-  pub keeps : Kept N ks t gone new (puts chs t) (shifts go)
-  keeps = record {
-    rules = rules-test N ks (puts chs t) again;
+  pub keeps : unlitFrom (limitOf ks) (puts chs t) ≡ true → Kept N ks t gone new (puts chs t) (shifts go)
+  keeps unlit = record {
+    rules = rules-test N ks (puts chs t) (again unlit);
     exact = exact;
     count =
         omega (
@@ -274,5 +276,5 @@ module _ (N : ℕ) (ks : List ℕ) (t : Channels) (gone new : List Circuit) (chs
         );
     named = names go (s .went);
     once = all-map _ _ (λ x h. bit-zero _ _ h) (circuits t) (weigh-zero _ (circuits t) none-astray);
-    links = rules-links N ks (puts chs t) again;
+    links = rules-links N ks (puts chs t) (again unlit);
   }

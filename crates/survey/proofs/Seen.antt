@@ -1,6 +1,6 @@
 -- The pass over the places: what it has seen from a place on, and what steps 1 and 2 take from it. Assumes nothing.
-use Prim.Native.Nat.{ℕ, zero, suc, _+_, _-_, _≤_, _<_}
-use mathlib.Core.Path.{_≡_, refl, sym, ap, _∙_}
+use Prim.Native.Nat.{ℕ, suc, _+_, _-_, _≤_, _<_}
+use mathlib.Core.Path.{_≡_, refl, sym, _∙_}
 use mathlib.Core.Bool.{Bool, true, false, _&&_, not}
 use mathlib.Core.List.{[]}
 use native.Mathlib.Decide.{decLt}
@@ -22,11 +22,9 @@ use Rattle.slots.specs.Slot.{held, isUnlit, isLit, isAlone, firstOf}
 use Rattle.slots.specs.declared.Slot.{Slot}
 use Rattle.slots.specs.declared.Slot.the-variants.{Unlit as unlit}
 use Rattle.slots.proofs.Contents.{is-unlit, unlit-not}
-use Rattle.lit_words.specs.Lit.{noneLitFrom}
 use Rattle.lit_words.specs.Unlit.{unlitIn}
 use Rattle.lit_words.specs.With.{withPlace}
 use Rattle.lit_words.specs.declared.Lit.{Lit}
-use Rattle.lit_words.proofs.NoneLit.{none-lit-at}
 use Rattle.lit_words.proofs.Built.{Built, built-start, built-room, built-skip, built-next, built-end}
 use Rattle.channels.specs.Channels.{Channels, at, circuits, numbered, litAt}
 use Rattle.channels.specs.Nonsharing.{standingAt}
@@ -106,9 +104,9 @@ module _ (N m : ℕ) (t : Channels) (c : Circuit) (long : length t ≡ placeCoun
   abbrev nothing : Pass
   nothing = record { numbered = 0; sent = 0; received = 0; join = m; lit = record { low = 0; high = 0 } }
 
-  -- above the highest place
-  seen-none-above : Seen N m t c placeCount nothing
-  seen-none-above = record {
+  -- the start of the pass, above the highest place
+  pub seen-start : Seen N m t c placeCount nothing
+  seen-start = record {
     numbers = rw none;
     sources = rw none;
     destinations = rw none;
@@ -155,20 +153,6 @@ module _ (N m : ℕ) (t : Channels) (c : Circuit) (long : length t ≡ placeCoun
         lit : (b : Bool) → litAt t (p - 1) ≡ b → Built (litAt t) (p - 1) (pick b (withPlace (v .lit) (p - 1)) (v .lit))
         lit true y = built-next p (v .lit) (s .words) h k true _ (sym y) refl refl
         lit false y = built-skip p (v .lit) (s .words) h k false (sym y) refl
-
-  -- the start of the pass: from a bound on no place is lit, and nothing is seen there
-  pub seen-start : (b : ℕ) → b ≤ placeCount → noneLitFrom b (litAt t) ≡ true → Seen N m t c b nothing
-  seen-start b l dark =
-      above (placeCount - b) b (omega arith) (λ q k j. sym (unlit-not (at t q)) ∙ ap not (none-lit-at b (litAt t) dark q k j))
-    where
-      above : (d p : ℕ) → p + d ≡ placeCount → ((q : ℕ) → q < placeCount → p ≤ q → isUnlit (at t q) ≡ true) → Seen N m t c p nothing
-      above zero p e dark = let z : p ≡ placeCount = omega arith in rw z seen-none-above
-      above (suc d) p e dark =
-          let s : suc p - 1 ≡ p = omega arith in
-          let higher = above d (suc p) (omega arith) (λ q k j. dark q k (omega arith)) in
-          rw s at
-          (seen-next (suc p) nothing higher (omega arith) (omega arith) nothing
-          (seen-dark N m c (suc p - 1) (at t (suc p - 1)) nothing true (rw (s, dark p (omega arith) (omega arith))) refl))
 
   -- at its end the place to join is step 1's
   pub seen-place : (p : ℕ) (v : Pass) → Seen N m t c p v → p ≤ 0 → v .join ≡ joinPlace N m t c

@@ -2,13 +2,11 @@
 // that of two circuits that the new one can join it keeps the lower. Every circuit counts, and only those below the limit are joined.
 
 ghost use mathlib.Core.Path.{_≡_};
-ghost use mathlib.Core.Bool.{true, _&&_};
+ghost use mathlib.Core.Bool.{_&&_};
 ghost use Prim.Native.Nat.{_<_, _≤_};
 ghost use lib.Dec.{ltb};
 ghost use Rattle.basis.specs.Choice.{pick};
 ghost use Rattle.limits.specs.Limits.{placeCount};
-ghost use Rattle.lit_words.specs.Lit.{noneLitFrom};
-ghost use Rattle.channels.specs.Channels.{litAt};
 ghost use Rattle.steps.specs.Steps.{canJoin};
 ghost use Rattle.survey.specs.Survey.{surveyOf, unlitSeen, passWith, Takes};
 use channels::Channel;
@@ -106,15 +104,14 @@ impl Survey {
     }
 }
 
-// What a new circuit has to know of the places. Those from `bound` up are known to be unlit, and are not looked at.
+// What a new circuit has to know of the places.
 pub fn survey_places(
     nodes: u8,
     limit: usize,
-    bound: usize,
     channels: [Channel; PLACE_COUNT],
     circuit: Circuit,
 ) -> Survey
-    requires { ⌜ (0 < nodes) × (limit ≤ placeCount) × (bound ≤ placeCount) × (noneLitFrom bound (litAt channels) ≡ true) ⌝ }
+    requires { ⌜ (0 < nodes) × (limit ≤ placeCount) ⌝ }
     ensures { λ r. ⌜ r ≡ surveyOf nodes limit channels circuit ⌝ }
 {
     let mut seen = Pass {
@@ -124,7 +121,7 @@ pub fn survey_places(
         join: limit,
         lit: Lit { low: 0, high: 0 },
     };
-    let mut place: usize = bound;
+    let mut place: usize = PLACE_COUNT;
     while 0 < place {
         place -= 1;
         let channel = channels[place];

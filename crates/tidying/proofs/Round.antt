@@ -1,14 +1,13 @@
 -- One round, in a table that meets the ring rules: it keeps the circuits and the rules, names its moves, and joins two circuits that stood
 -- alone. Assumes nothing.
 use Prim.Native.Nat.{ℕ, _+_, _≤_, _<_}
-use mathlib.Core.Path.{_≡_, refl, sym}
+use mathlib.Core.Path.{_≡_, refl, sym, _∙_}
 use mathlib.Core.Logic.{_≢_, inl}
 use mathlib.Core.Bool.{true}
 use mathlib.Core.List.{List, [], _∷_}
 use native.Mathlib.Omega.{arith}
 use lib.ListN.{length}
 use Rattle.basis.specs.Count.{All}
-use Rattle.basis.proofs.Bools.{all-map}
 use Rattle.lightpath.specs.Place.{directionOf}
 use Rattle.lightpath.specs.Circuit.{canShare}
 use Rattle.slots.specs.Slot.{isAlone}
@@ -22,7 +21,7 @@ use Rattle.channels.proofs.Puts.{puts-above}
 use Rattle.channels.proofs.Nonsharing.{Stands}
 use Rattle.ports.specs.Ports.{limitOf}
 use Rattle.rules.proofs.Rules.{Rules, limits-hold}
-use Rattle.rules.proofs.Unlit.{Dark}
+use Rattle.rules.proofs.Unlit.{unlit-still}
 use Rattle.steps.specs.Following.{relocated}
 use Rattle.steps.specs.Kept.{Kept}
 use Rattle.steps.proofs.Sound.{Shift, shifts, Sound, has, keeps}
@@ -56,13 +55,13 @@ module _ (N : ℕ) (ks : List ℕ) (t : Channels) (rules : Rules N ks t) where
       → Joining t chs → length (shifts go) ≤ 2 → All (λ n. isAlone (at t (n .from .0)) ≡ true) (shifts go)
       → Keeps N ks t (record { changes = chs; moves = shifts go })
   keeps-by chs stay go s low j few lone =
-      let dark : Dark m t chs = all-map _ _ (λ ch k h e. absurd (omega arith)) chs low in
-      let all = keeps N ks t [] [] chs stay go rules (rules .numbers) (rules .ports) s dark in
+      let same = puts-above m chs t low in
+      let all = keeps N ks t [] [] chs stay go rules (rules .numbers) (rules .ports) s (unlit-still m t (puts chs t) (rules .unused) (λ q l e. same q l ∙ e)) in
       record {
         kept = all;
         lower = joining-lit t chs j;
         settles = joining-settles t chs j (limits-hold N ks t rules .long);
-        above = puts-above m chs t low;
+        above = same;
         short = few;
         alone = lone;
         follows = relocates N ks t (puts chs t) (shifts go) rules all;

@@ -7,10 +7,10 @@ use Rattle.survey.proofs.survey_places.Statement.{statement}
 use Rattle.survey.proofs.survey_places.Tie as tie
 
 abbrev Inv-loop : tie.InvT-loop
-Inv-loop nodes limit bound circuit channels seen₀ place₀ seen place = (place ≤ placeCount) × Seen nodes limit channels circuit place seen
+Inv-loop nodes limit circuit channels seen₀ place₀ seen place = (place ≤ placeCount) × Seen nodes limit channels circuit place seen
 
 abbrev μ-loop : tie.MeasureT-loop
-μ-loop nodes limit bound circuit channels seen₀ place₀ seen place = place
+μ-loop nodes limit circuit channels seen₀ place₀ seen place = place
 
 loop-holds : tie.Need-loop-holds Inv-loop μ-loop
 loop-holds c = search (needs, seen)

@@ -6,17 +6,17 @@ use borrow.Author.Tests.{not-true}
 use Rattle.basis.proofs.Scan.{Passed, scan}
 use Rattle.limits.specs.Limits.{placeCount}
 use Rattle.channels.specs.Channels.{at}
-use Rattle.rules.specs.EachPlace.{placeHolds}
+use Rattle.rules.specs.Rules.{fits}
 use Rattle.rules.proofs.EachPlace.{places-all, places-fail}
 use Rattle.rules.proofs.places.places_hold.Statement.{statement}
 use Rattle.rules.proofs.places.places_hold.Tie as tie
 
--- the places before this one hold
+-- what the places before this one hold fits
 abbrev Inv-loop : tie.InvT-loop
-Inv-loop nodes limit channels place₀ place = (place ≤ placeCount) × Passed (λ p. placeHolds nodes limit p (at channels p)) true place
+Inv-loop nodes channels place₀ place = (place ≤ placeCount) × Passed (λ p. fits nodes p (at channels p)) true place
 
 abbrev μ-loop : tie.MeasureT-loop
-μ-loop nodes limit channels place₀ place = placeCount - place
+μ-loop nodes channels place₀ place = placeCount - place
 
 loop-holds : tie.Need-loop-holds Inv-loop μ-loop
 loop-holds c = search (needs, scan)
@@ -27,8 +27,8 @@ mul-channel c = search (needs, scan)
 array-copy-out-channel : tie.Need-array-copy-out-channel Inv-loop μ-loop
 array-copy-out-channel c = search (needs, scan)
 
-place-holds-requires : tie.Need-place-holds-requires Inv-loop μ-loop
-place-holds-requires c κs = search needs
+slot-fits-requires : tie.Need-slot-fits-requires Inv-loop μ-loop
+slot-fits-requires c κs = search needs
 
 returns : tie.Need-returns Inv-loop μ-loop
 returns c = search (needs, places-fail, not-true)
@@ -54,7 +54,7 @@ places-hold-spec =
     loop-holds
     mul-channel
     array-copy-out-channel
-    place-holds-requires
+    slot-fits-requires
     returns
     add-place
     loop-less
