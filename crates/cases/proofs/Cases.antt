@@ -16,7 +16,7 @@ use Rattle.roster.specs.Roster.{entries, arranged, tableOf, stands, builtOf, ta
 use Rattle.roster_rows.specs.Lookups.{rowOfRoster, circuitOfRoster}
 use Rattle.form.specs.Bytes.{highFirst, numberFrom}
 use Rattle.form.specs.Form.{mapBytes, fieldMap, optionalBytes, circuitBytes, recordBytes, recordsBytes, formOf}
-use Rattle.form.specs.Reading.{readPorts, mapBit, readMap, readOptional, readCircuit, mapHolds, readSecond, readRecord, readPlaceBy, readRecordsBy, checked, readTable, readOf}
+use Rattle.form.specs.Reading.{readPorts, mapBit, readMapBy, readOptional, readCircuit, mapHolds, readSecond, readRecordBy, readPlaceBy, readRecordsBy, checkedBy, readTable, readOf}
 use Rattle.load.specs.Load.{lightpathsBelow, loadsTo}
 use Rattle.load.specs.Report.{reportOf}
 use Rattle.grid.specs.Grid.{frequencyAt, wavelengthAt}
@@ -31,7 +31,7 @@ each (c ∷ cs) e = ((cc), each cs (cc))
 
 -- the answers to the table's, computed
 computed : map (λ c. answerTo (c .asked)) cases ≡ map (λ c. c .expected) cases
-unfolding ahead word noneLitFrom makeOf decideOf closeOf decideTidyOf tidyWithin unlitPlace planOf formOf mapBytes recordsBytes recordBytes fieldMap circuitBytes highFirst optionalBytes bitOf numberFrom readOf readTable checked readRecordsBy readPlaceBy readRecord readSecond mapHolds readCircuit readOptional readMap mapBit readPorts tunedOf carriedOf frequencyAt wavelengthAt users lightpathsBelow loadsTo reportOf keyOf restOf entryOf entries arranged tableOf stands builtOf tableBuilt rowOfRoster circuitOfRoster fronted
+unfolding ahead word noneLitFrom makeOf decideOf closeOf decideTidyOf tidyWithin unlitPlace planOf formOf mapBytes recordsBytes recordBytes fieldMap circuitBytes highFirst optionalBytes bitOf numberFrom readOf readTable readRecordsBy readPlaceBy readSecond mapHolds readCircuit readOptional mapBit readPorts tunedOf carriedOf frequencyAt wavelengthAt users lightpathsBelow loadsTo reportOf keyOf restOf entryOf entries arranged tableOf stands builtOf tableBuilt rowOfRoster circuitOfRoster fronted checkedBy readRecordBy readMapBy
 computed = refl
 
 -- so each of its cases holds

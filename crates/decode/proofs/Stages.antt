@@ -28,7 +28,7 @@ use Rattle.ring.specs.declared.Answered.{Answered}
 use Rattle.ring.specs.declared.RingTable.{RingTable}
 use Rattle.form.specs.Form.{mapWidth, formOf}
 use Rattle.form.specs.Reader.{Field, got, fault}
-use Rattle.form.specs.Reading.{answeredBy, readPorts, mapBit, readMap, readRecords, checked, readTable, readOf, readAnswer}
+use Rattle.form.specs.Reading.{answeredBy, readPorts, mapBit, readMapBy, readRecords, checkedBy, readTable, readOf, readAnswer}
 use Rattle.form.proofs.Laws.{read-number, write-back}
 use Rattle.form.proofs.Fields.{Holds}
 use Rattle.form.proofs.Tables.{ports-are}
@@ -81,7 +81,7 @@ pub ruleset readRules = (ring-refused, ring-granted)
 -- the map: cut short, with a bit at the limit or above, or good
 module _ (b : List ℕ) (t : RingTable) (q : Ported b t) where
   pub map-cut : length b - (1 + t .nodes) < 16 → readTable b ≡ fault CutShort
-  unfolding readTable readMap
+  unfolding readTable readMapBy
   map-cut h = rw (q .read, lt-leb 16 (length (drop (1 + t .nodes) b)) (simp length-drop h))
 
   -- the ring's limit is that of the ports
@@ -100,11 +100,11 @@ module _ (b : List ℕ) (t : RingTable) (q : Ported b t) where
       judged = sym (e ∙ rw (g, limit) (none-lit-same (limitOf (q .ports)) (litBit lit) (mapBit (take 16 (drop (1 + t .nodes) b))) says))
 
       pub map-bad : not v ≡ true → readTable b ≡ fault BadField
-      unfolding readTable readMap
+      unfolding readTable readMapBy
       map-bad k = rw (q .read, there, judged, not-true v k)
 
       pub map-good : not v ≡ false → Mapped b t lit
-      unfolding readTable readMap
+      unfolding readTable readMapBy
       map-good k =
           let n : 1 + t .nodes + mapWidth ≡ 1 + mapWidth + t .nodes = omega arith in
           record {
@@ -115,12 +115,12 @@ module _ (b : List ℕ) (t : RingTable) (q : Ported b t) where
           }
 
 -- the table that the definition judges
-judged-is : (ks : List ℕ) (chs : Channels) → answeredBy (checked ks chs []) ≡ judgedTable (withChannels (freshTable (length ks) ks) chs)
-unfolding checked judgedTable
+judged-is : (ks : List ℕ) (chs : Channels) → answeredBy (checkedBy meetsRules ks chs []) ≡ judgedTable (withChannels (freshTable (length ks) ks) chs)
+unfolding checkedBy judgedTable
 judged-is ks chs = go (meetsRules (withChannels (freshTable (length ks) ks) chs)) refl
   where
     go : (o : Bool) → meetsRules (withChannels (freshTable (length ks) ks) chs) ≡ o
-        → answeredBy (checked ks chs []) ≡ judgedTable (withChannels (freshTable (length ks) ks) chs)
+        → answeredBy (checkedBy meetsRules ks chs []) ≡ judgedTable (withChannels (freshTable (length ks) ks) chs)
     go true e = rw e
     go false e = rw e
 
@@ -150,7 +150,7 @@ module _ (b : List ℕ) (t : RingTable) (lit : Lit) (q : Mapped b t lit) (x : Re
     pub all-read : length b ≤ x .at → (r : Answered) → r ≡ judgedTable (withChannels t (x .channels)) → r ≡ readOf b
     unfolding readOf
     all-read l r g =
-        let s : readTable b ≡ checked (q .ports) (x .channels) [] = q .read ∙ rw ((rw e at h) .1, drop-of-length-le b l) in
+        let s : readTable b ≡ checkedBy meetsRules (q .ports) (x .channels) [] = q .read ∙ rw ((rw e at h) .1, drop-of-length-le b l) in
         g ∙ rw (q .table) (sym (ap answeredBy s ∙ judged-is (q .ports) (x .channels)))
 
 pub ruleset endRules = (answer-fault, records-fault, records-within, trailing, all-read)

@@ -14,7 +14,7 @@ use Rattle.ring.specs.declared.RingTable.{RingTable}
 use Rattle.ring.specs.declared.Answered.{Answered}
 use Rattle.form.specs.Form.{mapWidth}
 use Rattle.form.specs.Reader.{Field, got, fault, andThen, _>>_, end}
-use Rattle.form.specs.Reading.{readPorts, readRecords, checked, readTable, answeredBy}
+use Rattle.form.specs.Reading.{readPorts, readRecords, checkedBy, readTable, answeredBy}
 
 -- the ring of N nodes that has the ports read
 abbrev pub ringBy : Field (List ℕ) → Answered
@@ -35,6 +35,6 @@ pub record Ported (b : List ℕ) (t : RingTable) : Type 0 where
 -- and then a map with the words `lit`, no bit of it at 2 × W or above
 pub record Mapped (b : List ℕ) (t : RingTable) (lit : Lit) : Type 0 where
   pub ports : List ℕ
-  pub read : readTable b ≡ andThen (readRecords (litBit lit) placeCount 0 (drop (1 + mapWidth + t .nodes) b)) (λ chs. do end; checked ports chs)
+  pub read : readTable b ≡ andThen (readRecords (litBit lit) placeCount 0 (drop (1 + mapWidth + t .nodes) b)) (λ chs. do end; checkedBy meetsRules ports chs)
   pub within : 1 + mapWidth + t .nodes ≤ length b
   pub table : t ≡ freshTable (length ports) ports

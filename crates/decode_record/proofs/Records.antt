@@ -11,7 +11,7 @@ use Rattle.lit_words.specs.Lit.{bitOf}
 use Rattle.refusals.specs.declared.Refusal.{Refusal}
 use Rattle.refusals.specs.declared.Refusal.the-variants.{CutShort, BadField}
 use Rattle.form.specs.Reader.{Field, got, fault, andThen}
-use Rattle.form.specs.Reading.{readCircuit, mapHolds, readSecond, readRecord, readPlaceBy, readPlace}
+use Rattle.form.specs.Reading.{readCircuit, mapHolds, readSecond, readRecordBy, readRecord, readPlaceBy, readPlace}
 use Rattle.decode_record.specs.declared.circuit.CircuitRead.{CircuitRead}
 use Rattle.decode_record.specs.declared.circuit.CircuitRead.the-variants.{Got, Refused}
 use Rattle.decode_record.specs.declared.SlotRead.{SlotRead}
@@ -42,18 +42,18 @@ pub ruleset secondRules = (no-second, second-fault, second-got, read-within)
 -- a record: cut short, with a bad field map, or read circuit by circuit
 module _ (b : List ℕ) (i : ℕ) where
   pub record-cut : length b ≤ i → readRecord (drop i b) ≡ fault CutShort
-  unfolding readRecord
+  unfolding readRecordBy
   record-cut h = rw (drop-of-length-le b h)
 
   module _ (h : i < length b) (v : Bool) (e : v ≡ mapHolds (getD b i 0)) where
     pub map-bad : not v ≡ true → readRecord (drop i b) ≡ fault BadField
-    unfolding readRecord
+    unfolding readRecordBy
     map-bad t = rw (byte-at b i (i + 1) h refl, ← e, not-true v t)
 
     module _ (t : not v ≡ false) (m0 m3 : Bool) (e0 : m0 ≡ bitOf (getD b i 0) 0) (e3 : m3 ≡ bitOf (getD b i 0) 3)
         (f : CircuitRead) (a : CircuitAt b f (readCircuit m0 m3 (drop (i + 1) b))) where
       mapped : readRecord (drop i b) ≡ andThen (readCircuit m0 m3 (drop (i + 1) b)) (λ c. readSecond c (bitOf (getD b i 0) 1) (bitOf (getD b i 0) 2) (bitOf (getD b i 0) 4))
-      unfolding readRecord
+      unfolding readRecordBy
       mapped = rw (byte-at b i (i + 1) h refl, ← e, not-false v t, e0, e3)
 
       pub record-fault : (r : Refusal) → f ≡ Refused r → readRecord (drop i b) ≡ fault r

@@ -2,7 +2,7 @@
 -- writes back to the very same bytes; and those are the forms of the tables without accounts. Assumes nothing.
 use Prim.Native.Nat.{ℕ, zero, suc, _+_, _*_, _<_}
 use mathlib.Core.Path.{_≡_, refl}
-use mathlib.Core.Logic.{inl, inr, _≢_}
+use mathlib.Core.Logic.{inl, _≢_}
 use mathlib.Core.Bool.{Bool, true, false, _||_, not}
 use mathlib.Core.List.{List, [], _∷_}
 use native.Mathlib.Omega.{arith}
@@ -21,21 +21,19 @@ use Rattle.slots.specs.Slot.{held}
 use Rattle.lit_words.specs.Lit.{bitOf, word}
 use Rattle.lit_words.proofs.Bits.{bit-above}
 use Rattle.channels.specs.Channels.{Channels, circuits}
-use Rattle.ports.specs.Ports.{limitOf}
 use Rattle.refusals.specs.declared.Refusal.the-variants.{BadField as no-31, BrokenForm as no-33}
 use Rattle.refusals.specs.declared.Verdict.the-variants.{Granted as granted, Refused as refused}
 use Rattle.ring.specs.Table.{meetsRules, freshTable, withChannels}
 use Rattle.ring.specs.declared.RingTable.{RingTable}
-use Rattle.form.specs.Form.{present, fieldBits, fieldMap, recordBytes, formOf, numberWidth, remarkWidth}
-use Rattle.form.specs.Reader.{Reader, andThen, _unless_, byte, bytes, end}
-use Rattle.form.specs.Reading.{readPorts, mapBit, readMap, readOptional, readCircuit, mapHolds, readSecond, readRecord, readPlaceBy, readRecordsBy, checked, readBy, readTable, readOf}
-use Rattle.form.specs.BeforeE2.{mapHeldBeforeE2, readRecordBeforeE2, readBeforeE2, NoAccounts, RemainsGood}
+use Rattle.form.specs.Form.{present, fieldBits, fieldMap, formOf, numberWidth, remarkWidth}
+use Rattle.form.specs.Reader.{byte, bytes, end}
+use Rattle.form.specs.Reading.{readPorts, mapBit, readMapBy, readOptional, readCircuit, mapHolds, readSecond, readRecordBy, readPlaceBy, readRecordsBy, checkedBy, readBy, unlitAbove, testsNow, readTable, readOf}
+use Rattle.form.specs.BeforeE2.{mapHeldBeforeE2, testsBeforeE2, readBeforeE2, NoAccounts, RemainsGood}
 use Rattle.form.proofs.FieldMap.{map-bit}
 use Rattle.form.proofs.Fields.{Holds, then-holds, then-any, unless-holds, AreBytes}
-use Rattle.form.proofs.Trip.{PlaceBack, place-back}
-use Rattle.form.proofs.Tables.{table-back-by}
+use Rattle.form.proofs.Tables.{unlit-written, table-back-by}
 use Rattle.form.proofs.Laws.{granted-holds, write-back}
-use Rattle.form.proofs.Agreeing.{not-refused, Agrees, agrees-then, agrees-answer}
+use Rattle.form.proofs.Agreeing.{not-refused, implied, agrees-answer}
 
 -- the lowest field maps that have an account and hold now did not hold
 pub no-bits : (mapHeldBeforeE2 8 ≡ false) × (mapHeldBeforeE2 18 ≡ false)
@@ -54,11 +52,17 @@ module _ (b0 b1 b2 : Bool) where
       and-both _ _ (lt-ltb (fieldMap bits) _ (omega (arith, value, bit-most b0, bit-most b1, bit-most b2))) (rw (map-bit bits 1 (omega arith), map-bit bits 2 (omega arith)) h)
 
 -- so that of a place with no accounts did
-alone-held : (a : Circuit) → a .account ≡ 0 → mapHeldBeforeE2 (fieldMap (fieldBits (alone a))) ≡ true
-alone-held a h = rw (eq-eqb (a .account) 0 h) (map-held (present (a .remark)) false false refl)
+written-held : (x : Slot) → All (λ c. c .account ≡ 0) (held x) → mapHeldBeforeE2 (fieldMap (fieldBits x)) ≡ true
+unfolding fieldMap word
+written-held unlit h = map-held false false false refl
+written-held (alone a) h = rw (eq-eqb (a .account) 0 (h .0)) (map-held (present (a .remark)) false false refl)
+written-held (shared a b) h =
+    rw (eq-eqb (a .account) 0 (h .0), eq-eqb (b .account) 0 (h .1 .0)) (map-held (present (a .remark)) true (present (b .remark)) refl)
 
-shared-held : (a b : Circuit) → a .account ≡ 0 → b .account ≡ 0 → mapHeldBeforeE2 (fieldMap (fieldBits (shared a b))) ≡ true
-shared-held a b h k = rw (eq-eqb (a .account) 0 h, eq-eqb (b .account) 0 k) (map-held (present (a .remark)) true (present (b .remark)) refl)
+all-held : (chs : Channels) → NoAccounts chs → All (λ ch. mapHeldBeforeE2 (fieldMap (fieldBits (ch .slot))) ≡ true) chs
+all-held [] h = tt
+all-held (ch ∷ chs) h =
+    (written-held (ch .slot) (all-left _ (held (ch .slot)) (circuits chs) h), all-held chs (all-right _ (held (ch .slot)) (circuits chs) h))
 
 -- a field map that held before has neither of the two bits
 module _ (m : ℕ) (h : mapHeldBeforeE2 m ≡ true) where
@@ -81,44 +85,12 @@ module _ (m : ℕ) (h : mapHeldBeforeE2 m ≡ true) where
       go false true k = k
       go false false k = refl
 
--- a record goes as before, or before it was refused by 31
-agrees-record : (s : List ℕ) → Agrees no-31 (readRecordBeforeE2 s) (readRecord s)
-unfolding readRecord
-agrees-record [] = inr refl
-agrees-record (m ∷ s) = go (mapHeldBeforeE2 m) refl
-  where
-    rest : Unit {0} → Reader Slot
-    rest u = λ s. andThen (readCircuit (bitOf m 0) (bitOf m 3) s) (λ a. readSecond a (bitOf m 1) (bitOf m 2) (bitOf m 4))
-
-    go : (o : Bool) → mapHeldBeforeE2 m ≡ o → Agrees no-31 (andThen ((no-31 unless o) s) rest) (andThen ((no-31 unless mapHolds m) s) rest)
-    go true e = inr (rw (held-holds m e))
-    go false e = inl refl
-
--- so do the records of all places, and the whole form, whatever is checked at its end
-agrees-place : (l : Bool) (s : List ℕ) → Agrees no-31 (readPlaceBy readRecordBeforeE2 l s) (readPlaceBy readRecord l s)
-unfolding readPlaceBy
-agrees-place false s = inr refl
-agrees-place true s = agrees-record s
-
-agrees-places : (lit : ℕ → Bool) (k p : ℕ) (s : List ℕ) → Agrees no-31 (readRecordsBy readRecordBeforeE2 lit k p s) (readRecordsBy readRecord lit k p s)
-unfolding readRecordsBy
-agrees-places lit zero p s = inr refl
-agrees-places lit (suc k) p s =
-    agrees-then no-31 _ _ _ _ (agrees-place (lit p) s) λ slot s.
-    agrees-then no-31 _ _ _ _ (agrees-places lit k (suc p) s) λ chs s.
-    inr refl
-
-pub agrees-records : (check : List ℕ → Channels → Reader RingTable) (s : List ℕ) → Agrees no-31 (readBy readRecordBeforeE2 check s) (readBy readRecord check s)
-agrees-records check s =
-    agrees-then no-31 (readPorts s) (readPorts s) _ _ (inr refl) λ ks s.
-    agrees-then no-31 (readMap (limitOf ks) s) (readMap (limitOf ks) s) _ _ (inr refl) λ m s.
-    agrees-then no-31 _ _ _ _ (agrees-places (mapBit m) placeCount 0 s) λ chs s.
-    inr refl
-
 -- a form that was not refused by 31 before has the answer and the table now that it had before
 pub answer-before : (s : List ℕ) → readBeforeE2 s .verdict ≢ refused no-31 → readOf s ≡ readBeforeE2 s
 unfolding readOf readTable
-answer-before s other = agrees-answer no-31 (readBy readRecordBeforeE2 checked s) (readBy readRecord checked s) (agrees-records checked s) other
+answer-before s other =
+    agrees-answer testsBeforeE2 testsNow s
+    (record { map = λ ks lit. inl refl; fields = λ m. implied _ _ other (held-holds m); table = λ t. inl refl })
 
 -- no circuit that was read before has an account
 circuit-none : (m : Bool) (s : List ℕ) → Holds (λ c r. c .account ≡ 0) (readCircuit m false s)
@@ -135,7 +107,8 @@ unfolding readSecond
 second-none a false m s e = (e, tt)
 second-none a true m s e = then-holds _ _ (readCircuit m false s) _ (circuit-none m s) λ b r q. (e, (q, tt))
 
-record-none : (s : List ℕ) → Holds (λ x r. All (λ c. c .account ≡ 0) (held x)) (readRecordBeforeE2 s)
+record-none : (s : List ℕ) → Holds (λ x r. All (λ c. c .account ≡ 0) (held x)) (readRecordBy mapHeldBeforeE2 s)
+unfolding readRecordBy
 record-none s =
     then-any _ (byte s) _ λ m s1.
     unless-holds _ no-31 (mapHeldBeforeE2 m) s1 _ λ t.
@@ -143,31 +116,31 @@ record-none s =
     (then-holds _ _ (readCircuit (bitOf m 0) false s1) _ (circuit-none (bitOf m 0) s1) λ a s2 q.
     second-none a (bitOf m 1) (bitOf m 2) s2 q)
 
-place-none : (l : Bool) (s : List ℕ) → Holds (λ x r. All (λ c. c .account ≡ 0) (held x)) (readPlaceBy readRecordBeforeE2 l s)
+place-none : (l : Bool) (s : List ℕ) → Holds (λ x r. All (λ c. c .account ≡ 0) (held x)) (readPlaceBy (readRecordBy mapHeldBeforeE2) l s)
 unfolding readPlaceBy
 place-none false s = tt
 place-none true s = record-none s
 
-records-none : (lit : ℕ → Bool) (k p : ℕ) (s : List ℕ) → Holds (λ chs r. NoAccounts chs) (readRecordsBy readRecordBeforeE2 lit k p s)
+records-none : (lit : ℕ → Bool) (k p : ℕ) (s : List ℕ) → Holds (λ chs r. NoAccounts chs) (readRecordsBy (readRecordBy mapHeldBeforeE2) lit k p s)
 unfolding readRecordsBy
 records-none lit zero p s = tt
 records-none lit (suc k) p s =
-    then-holds _ _ (readPlaceBy readRecordBeforeE2 (lit p) s) _ (place-none (lit p) s) λ x s1 q.
-    then-holds _ _ (readRecordsBy readRecordBeforeE2 lit k (suc p) s1) _ (records-none lit k (suc p) s1) λ chs s2 q2.
+    then-holds _ _ (readPlaceBy (readRecordBy mapHeldBeforeE2) (lit p) s) _ (place-none (lit p) s) λ x s1 q.
+    then-holds _ _ (readRecordsBy (readRecordBy mapHeldBeforeE2) lit k (suc p) s1) _ (records-none lit k (suc p) s1) λ chs s2 q2.
     all-join _ (held x) (circuits chs) q q2
 
-table-none : (s : List ℕ) → Holds (λ t r. NoAccounts (t .channels)) (readBy readRecordBeforeE2 checked s)
-unfolding checked
+table-none : (s : List ℕ) → Holds (λ t r. NoAccounts (t .channels)) (readBy testsBeforeE2 s)
+unfolding checkedBy
 table-none s =
     then-any _ (readPorts s) _ λ ks s1.
-    then-any _ (readMap (limitOf ks) s1) _ λ m s2.
-    then-holds _ _ (readRecordsBy readRecordBeforeE2 (mapBit m) placeCount 0 s2) _ (records-none (mapBit m) placeCount 0 s2) λ chs s3 q.
+    then-any _ (readMapBy (unlitAbove ks) s1) _ λ m s2.
+    then-holds _ _ (readRecordsBy (readRecordBy mapHeldBeforeE2) (mapBit m) placeCount 0 s2) _ (records-none (mapBit m) placeCount 0 s2) λ chs s3 q.
     then-any _ (end s3) _ λ u s4.
     unless-holds _ no-33 (meetsRules (withChannels (freshTable (length ks) ks) chs)) s4 _ λ g.
     q
 
 pub no-accounts : (s : List ℕ) → readBeforeE2 s .verdict ≡ granted → NoAccounts (readBeforeE2 s .table .channels)
-no-accounts s e = granted-holds _ (readBy readRecordBeforeE2 checked s) (table-none s) e .1
+no-accounts s e = granted-holds _ (readBy testsBeforeE2 s) (table-none s) e .1
 
 -- every form that was read before remains good
 pub read-before : (s : List ℕ) → AreBytes s → readBeforeE2 s .verdict ≡ granted → RemainsGood s
@@ -176,22 +149,6 @@ read-before s h e = record { same = same; none = rw same (no-accounts s e); back
     same : readOf s ≡ readBeforeE2 s
     same = answer-before s (not-refused _ no-31 e)
 
--- each place without accounts was read back
-place-back-before : (x : Slot) → All (λ c. c .account ≡ 0) (held x) → PlaceBack readRecordBeforeE2 x
-unfolding readPlaceBy readRecord recordBytes
-place-back-before unlit h s = refl
-place-back-before (alone a) h s =
-    let m : mapHeldBeforeE2 (fieldMap (fieldBits (alone a))) ≡ true = alone-held a (h .0) in
-    rw m (rw (held-holds _ m) at (place-back (alone a) s))
-place-back-before (shared a b) h s =
-    let m : mapHeldBeforeE2 (fieldMap (fieldBits (shared a b))) ≡ true = shared-held a b (h .0) (h .1 .0) in
-    rw m (rw (held-holds _ m) at (place-back (shared a b) s))
-
-places-back-before : (chs : Channels) → NoAccounts chs → All (λ ch. PlaceBack readRecordBeforeE2 (ch .slot)) chs
-places-back-before [] h = tt
-places-back-before (ch ∷ chs) h =
-    (place-back-before (ch .slot) (all-left _ (held (ch .slot)) (circuits chs) h), places-back-before chs (all-right _ (held (ch .slot)) (circuits chs) h))
-
 -- the form of every table without accounts was read before
 pub back-before : (t : RingTable) → meetsRules t ≡ true → NoAccounts (t .channels) → readBeforeE2 (formOf t) ≡ record { table = t; verdict = granted }
-back-before t m h = rw (table-back-by readRecordBeforeE2 t m (places-back-before (t .channels) h))
+back-before t m h = rw (table-back-by testsBeforeE2 t m (unlit-written t m) (all-held (t .channels) h) m)

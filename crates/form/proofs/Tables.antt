@@ -12,8 +12,6 @@ use borrow.Author.Tests.{le-leb, leb-true, eqb-true}
 use Rattle.basis.specs.Count.{total, All}
 use Rattle.basis.proofs.Bools.{and-left, and-right, all-right}
 use Rattle.limits.specs.Limits.{placeCount}
-use Rattle.slots.specs.declared.Slot.{Slot}
-use Rattle.lit_words.specs.Lit.{noneLitFrom}
 use Rattle.lit_words.proofs.NoneLit.{none-lit-same}
 use Rattle.channels.specs.Channels.{Channels, litAt}
 use Rattle.ports.specs.Ports.{limitOf, eachAtMost}
@@ -22,12 +20,12 @@ use Rattle.refusals.specs.declared.Refusal.the-variants.{NodeCount, PortCount, 
 use Rattle.ring.specs.Table.{meetsRules, freshTable, withChannels}
 use Rattle.ring.specs.declared.RingTable.{RingTable}
 use Rattle.ring.proofs.TableRules.{table-rules, table-limits}
-use Rattle.form.specs.Form.{mapBytes, mapWidth, recordsBytes, portsBytes, formOf}
-use Rattle.form.specs.Reader.{got, Reader, byte, bytes, end}
-use Rattle.form.specs.Reading.{readRecord, readPorts, mapBit, readMap, readRecordsBy, readRecords, checked, readBy, readTable}
+use Rattle.form.specs.Form.{fieldBits, fieldMap, mapBytes, mapWidth, recordsBytes, portsBytes, formOf}
+use Rattle.form.specs.Reader.{got, byte, bytes, end}
+use Rattle.form.specs.Reading.{readPorts, mapBit, readMapBy, readRecordBy, readRecordsBy, readRecords, checkedBy, Tests, readBy, unlitAbove, testsNow, readTable}
 use Rattle.form.proofs.MapBytes.{map-long, map-says, map-is}
 use Rattle.form.proofs.Ports.{total-nodes, nodes-zeros}
-use Rattle.form.proofs.Trip.{bytes-back, PlaceBack, places-back, records-back}
+use Rattle.form.proofs.Trip.{bytes-back, all-hold, records-back}
 use Rattle.form.proofs.Fields.{Holds, then-holds, then-any, unless-holds, AreBytes, Wrote, byte-is, bytes-are, bytes-wrote}
 use Rattle.form.proofs.Unique.{RecordsWrote, records-wrote}
 
@@ -36,24 +34,30 @@ ports-back : (N : ℕ) (ks s : List ℕ) → 3 ≤ N → N ≤ 64 → length ks 
 unfolding readPorts
 ports-back N ks s l h e m t = rw (le-leb 3 N l, le-leb N 64 h, bytes-back ks s N e, m, le-leb (total ks) 192 t)
 
--- the map that is written has no place lit from the limit on
-unlit-written : (lit : ℕ → Bool) (limit : ℕ) → noneLitFrom limit lit ≡ true → noneLitFrom limit (mapBit (mapBytes lit mapWidth 0)) ≡ true
-unlit-written lit limit h = none-lit-same limit (mapBit (mapBytes lit mapWidth 0)) lit (map-says lit) ∙ h
-
--- and is read back
-map-back : (lit : ℕ → Bool) (limit : ℕ) (s : List ℕ) → noneLitFrom limit lit ≡ true → readMap limit (mapBytes lit mapWidth 0 ++ s) ≡ got (mapBytes lit mapWidth 0) s
-unfolding readMap
-map-back lit limit s h = rw (bytes-back (mapBytes lit mapWidth 0) s mapWidth (map-long lit mapWidth 0), unlit-written lit limit h)
+-- the map that is written is read back where it passes the test `holds`
+map-back : (holds : (ℕ → Bool) → Bool) (lit : ℕ → Bool) (s : List ℕ) → holds (mapBit (mapBytes lit mapWidth 0)) ≡ true
+    → readMapBy holds (mapBytes lit mapWidth 0 ++ s) ≡ got (mapBytes lit mapWidth 0) s
+unfolding readMapBy
+map-back holds lit s h = rw (bytes-back (mapBytes lit mapWidth 0) s mapWidth (map-long lit mapWidth 0), h)
 
 -- the table that is checked is the one written
-checked-back : (t : RingTable) (ks : List ℕ) → meetsRules t ≡ true → length ks ≡ t .nodes → ks ++ replicate (64 - t .nodes) 0 ≡ t .ports → checked ks (t .channels) [] ≡ got t []
-unfolding checked
-checked-back t ks m e p = rw (e, p, m)
+checked-back : (meets : RingTable → Bool) (t : RingTable) (ks : List ℕ) → meets t ≡ true → length ks ≡ t .nodes → ks ++ replicate (64 - t .nodes) 0 ≡ t .ports
+    → checkedBy meets ks (t .channels) [] ≡ got t []
+unfolding checkedBy
+checked-back meets t ks m e p = rw (e, p, m)
 
--- a table that meets the ring rules is read back from its form, where each place is
-pub table-back-by : (one : Reader Slot) (t : RingTable) → meetsRules t ≡ true → All (λ ch. PlaceBack one (ch .slot)) (t .channels) → readBy one checked (formOf t) ≡ got t []
+-- the map of a table that meets the ring rules has no place lit from the limit on
+pub unlit-written : (t : RingTable) → meetsRules t ≡ true → unlitAbove (portsBytes t) (mapBit (mapBytes (litAt (t .channels)) mapWidth 0)) ≡ true
+unlit-written t m =
+    let r = table-rules t m in
+    none-lit-same (limitOf (portsBytes t)) (mapBit (mapBytes (litAt (t .channels)) mapWidth 0)) (litAt (t .channels)) (map-says (litAt (t .channels)))
+    ∙ rw (total-nodes (t .nodes) (t .ports) (eqb-true _ _ (r .spare))) (r .unused)
+
+-- such a table is read back from its form by tests that this passes
+pub table-back-by : (tests : Tests) (t : RingTable) → meetsRules t ≡ true → tests .map (portsBytes t) (mapBit (mapBytes (litAt (t .channels)) mapWidth 0)) ≡ true
+    → All (λ ch. tests .fields (fieldMap (fieldBits (ch .slot))) ≡ true) (t .channels) → tests .table t ≡ true → readBy tests (formOf t) ≡ got t []
 unfolding formOf
-table-back-by one t m k =
+table-back-by tests t m map fields table =
     let r = table-rules t m in
     let l = table-limits t m in
     let lit : ℕ → Bool = litAt (t .channels) in
@@ -61,19 +65,19 @@ table-back-by one t m k =
     let sum : total (portsBytes t) ≡ total (t .ports) = total-nodes (t .nodes) (t .ports) spare in
     let count : length (portsBytes t) ≡ t .nodes = length-take-le (t .nodes) (t .ports) (omega (arith, l .most, l .fields)) in
     let ports : portsBytes t ++ replicate (64 - t .nodes) 0 ≡ t .ports = rw (l .fields) at (nodes-zeros (t .nodes) (t .ports) spare) in
-    let records : readRecordsBy one (mapBit (mapBytes lit mapWidth 0)) placeCount 0 (recordsBytes (t .channels)) ≡ got (t .channels) [] =
-    rw (append-nil, l .long) at (records-back one (mapBit (mapBytes lit mapWidth 0)) (t .channels) 0 [] k (λ j h. rw zero-add (map-says lit j (omega (arith, l .long))))) in
+    let records : readRecordsBy (readRecordBy (tests .fields)) (mapBit (mapBytes lit mapWidth 0)) placeCount 0 (recordsBytes (t .channels)) ≡ got (t .channels) [] =
+    rw (append-nil, l .long) at (records-back (tests .fields) (mapBit (mapBytes lit mapWidth 0)) (t .channels) 0 [] fields (λ j h. rw zero-add (map-says lit j (omega (arith, l .long))))) in
     rw (
       ports-back (t .nodes) (portsBytes t) (mapBytes lit mapWidth 0 ++ recordsBytes (t .channels)) (l .three) (l .most) count
           (each-take 64 (t .nodes) (t .ports) (search (and-left, and-right))) (omega (arith, sum, leb-true (total (t .ports)) 192 (search (and-left, and-right)))),
-      map-back lit (limitOf (portsBytes t)) (recordsBytes (t .channels)) (rw sum (r .unused)),
+      map-back (tests .map (portsBytes t)) lit (recordsBytes (t .channels)) map,
       records,
-      checked-back t (portsBytes t) m count ports,
+      checked-back (tests .table) t (portsBytes t) table count ports,
     )
 
 pub table-back : (t : RingTable) → meetsRules t ≡ true → readTable (formOf t) ≡ got t []
 unfolding readTable
-table-back t m = table-back-by readRecord t m (places-back (t .channels))
+table-back t m = table-back-by testsNow t m (unlit-written t m) (all-hold (t .channels)) m
 
 -- the ports of the nodes stand after their number
 pub ports-are : (s : List ℕ) → Holds (λ ks r. s ≡ length ks ∷ (ks ++ r)) (readPorts s)
@@ -87,11 +91,11 @@ ports-are s =
     rw (q .1, ← q .0) e
 
 -- the map is the next 16 bytes
-map-wrote : (limit : ℕ) (s : List ℕ) → AreBytes s → Holds (λ m r. Wrote (λ m. m) s m r × (length m ≡ mapWidth)) (readMap limit s)
-unfolding readMap
-map-wrote limit s h =
+map-wrote : (holds : (ℕ → Bool) → Bool) (s : List ℕ) → AreBytes s → Holds (λ m r. Wrote (λ m. m) s m r × (length m ≡ mapWidth)) (readMapBy holds s)
+unfolding readMapBy
+map-wrote holds s h =
     then-holds _ _ (bytes mapWidth s) _ (bytes-wrote mapWidth s h) λ m r q.
-    unless-holds _ BadField (noneLitFrom limit (mapBit m)) r _ λ a.
+    unless-holds _ BadField (holds (mapBit m)) r _ λ a.
     q
 
 -- nothing stands after the end
@@ -111,10 +115,10 @@ form-is s ks m s1 s2 chs p q e l =
 
 -- the form of a table that is read is the bytes read
 pub table-wrote : (s : List ℕ) → AreBytes s → Holds (λ t r. formOf t ≡ s) (readTable s)
-unfolding readTable checked
+unfolding readTable checkedBy
 table-wrote s h =
     then-holds _ _ (readPorts s) _ (ports-are s) λ ks s1 p.
-    then-holds _ _ (readMap (limitOf ks) s1) _ (map-wrote (limitOf ks) s1 (all-right (λ x. x < 256) ks s1 ((rw p at h) .1))) λ m s2 q.
+    then-holds _ _ (readMapBy (unlitAbove ks) s1) _ (map-wrote (unlitAbove ks) s1 (all-right (λ x. x < 256) ks s1 ((rw p at h) .1))) λ m s2 q.
     then-holds _ _ (readRecords (mapBit m) placeCount 0 s2) _ (records-wrote (mapBit m) placeCount 0 s2 (q .0 .rest)) λ chs s3 l.
     then-holds _ _ (end s3) _ (end-empty s3) λ u s4 e.
     unless-holds _ BrokenForm (meetsRules (withChannels (freshTable (length ks) ks) chs)) s4 _ λ g.
@@ -122,10 +126,10 @@ table-wrote s h =
 
 -- the rules are tested last
 pub table-meets : (s : List ℕ) → Holds (λ t r. meetsRules t ≡ true) (readTable s)
-unfolding readTable checked
+unfolding readTable checkedBy
 table-meets s =
     then-any _ (readPorts s) _ λ ks s1.
-    then-any _ (readMap (limitOf ks) s1) _ λ m s2.
+    then-any _ (readMapBy (unlitAbove ks) s1) _ λ m s2.
     then-any _ (readRecords (mapBit m) placeCount 0 s2) _ λ chs s3.
     then-any _ (end s3) _ λ u s4.
     unless-holds _ BrokenForm (meetsRules (withChannels (freshTable (length ks) ks) chs)) s4 _ λ g. g

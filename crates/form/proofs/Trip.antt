@@ -14,12 +14,12 @@ use Rattle.lightpath.specs.declared.Circuit.{Circuit}
 use Rattle.slots.specs.declared.Slot.{Slot}
 use Rattle.slots.specs.declared.Slot.the-variants.{Unlit as unlit, Alone as alone, Shared as shared}
 use Rattle.slots.specs.Slot.{isLit}
-use Rattle.lit_words.specs.Lit.{bitOf}
+use Rattle.lit_words.specs.Lit.{bitOf, word}
 use Rattle.channels.specs.Channels.{Channels, litAt}
 use Rattle.form.specs.Bytes.{highFirst}
 use Rattle.form.specs.Form.{present, optionalBytes, numberWidth, remarkWidth, accountWidth, circuitBytes, fieldBits, fieldMap, recordBytes, recordsBytes}
-use Rattle.form.specs.Reader.{got, Reader, bytes}
-use Rattle.form.specs.Reading.{readOptional, readCircuit, mapHolds, readSecond, readRecord, readPlaceBy, readRecordsBy}
+use Rattle.form.specs.Reader.{got, bytes}
+use Rattle.form.specs.Reading.{readOptional, readCircuit, mapHolds, readSecond, readRecordBy, readPlaceBy, readRecordsBy}
 use Rattle.form.proofs.Numbers.{high-long, high-number}
 use Rattle.form.proofs.FieldMap.{map-bit, field-map-holds}
 
@@ -62,50 +62,54 @@ circuit-back c s =
       high-number 3 (c .number),
     )
 
--- a record is, of one circuit and of two
-alone-back : (a : Circuit) (s : List ℕ) → readRecord (fieldMap (fieldBits (alone a)) ∷ circuitBytes a ++ s) ≡ got (alone a) s
-unfolding readRecord readSecond
-alone-back a s =
+-- every field map that is written holds
+written-holds : (x : Slot) → mapHolds (fieldMap (fieldBits x)) ≡ true
+unfolding fieldMap word
+written-holds unlit = field-map-holds false false false false false refl
+written-holds (alone a) = field-map-holds (present (a .remark)) false false (present (a .account)) false refl
+written-holds (shared a b) = field-map-holds (present (a .remark)) true (present (b .remark)) (present (a .account)) (present (b .account)) refl
+
+pub all-hold : (chs : Channels) → All (λ ch. mapHolds (fieldMap (fieldBits (ch .slot))) ≡ true) chs
+all-hold [] = tt
+all-hold (ch ∷ chs) = (written-holds (ch .slot), all-hold chs)
+
+-- a record is read back where its field map passes the test `holds`, of one circuit and of two
+alone-back : (holds : ℕ → Bool) (a : Circuit) (s : List ℕ) → holds (fieldMap (fieldBits (alone a))) ≡ true
+    → readRecordBy holds (fieldMap (fieldBits (alone a)) ∷ circuitBytes a ++ s) ≡ got (alone a) s
+unfolding readRecordBy readSecond
+alone-back holds a s h =
     let bits : List Bool = fieldBits (alone a) in
-    let holds : mapHolds (fieldMap bits) ≡ true = field-map-holds (present (a .remark)) false false (present (a .account)) false refl in
     let remark : bitOf (fieldMap bits) 0 ≡ present (a .remark) = map-bit bits 0 (omega arith) in
     let second : bitOf (fieldMap bits) 1 ≡ false = map-bit bits 1 (omega arith) in
     let account : bitOf (fieldMap bits) 3 ≡ present (a .account) = map-bit bits 3 (omega arith) in
-    rw (holds, remark, second, account, circuit-back a s)
+    rw (h, remark, second, account, circuit-back a s)
 
-shared-back : (a b : Circuit) (s : List ℕ) → readRecord (fieldMap (fieldBits (shared a b)) ∷ circuitBytes a ++ (circuitBytes b ++ s)) ≡ got (shared a b) s
-unfolding readRecord readSecond
-shared-back a b s =
+shared-back : (holds : ℕ → Bool) (a b : Circuit) (s : List ℕ) → holds (fieldMap (fieldBits (shared a b))) ≡ true
+    → readRecordBy holds (fieldMap (fieldBits (shared a b)) ∷ circuitBytes a ++ (circuitBytes b ++ s)) ≡ got (shared a b) s
+unfolding readRecordBy readSecond
+shared-back holds a b s h =
     let bits : List Bool = fieldBits (shared a b) in
     let first-remark : bitOf (fieldMap bits) 0 ≡ present (a .remark) = map-bit bits 0 (omega arith) in
     let second : bitOf (fieldMap bits) 1 ≡ true = map-bit bits 1 (omega arith) in
     let second-remark : bitOf (fieldMap bits) 2 ≡ present (b .remark) = map-bit bits 2 (omega arith) in
     let first-account : bitOf (fieldMap bits) 3 ≡ present (a .account) = map-bit bits 3 (omega arith) in
     let second-account : bitOf (fieldMap bits) 4 ≡ present (b .account) = map-bit bits 4 (omega arith) in
-    let holds : mapHolds (fieldMap bits) ≡ true = field-map-holds (present (a .remark)) true (present (b .remark)) (present (a .account)) (present (b .account)) refl in
-    rw (holds, first-remark, second, second-remark, first-account, second-account, circuit-back a (circuitBytes b ++ s), circuit-back b s)
+    rw (h, first-remark, second, second-remark, first-account, second-account, circuit-back a (circuitBytes b ++ s), circuit-back b s)
 
--- what a place holds is read back by `one`
-abbrev pub PlaceBack : Reader Slot → Slot → Type 0
-PlaceBack one x = (s : List ℕ) → readPlaceBy one (isLit x) (recordBytes x ++ s) ≡ got x s
-
--- it is, lit or not
-pub place-back : (x : Slot) → PlaceBack readRecord x
+-- so is what a place holds
+place-back : (holds : ℕ → Bool) (x : Slot) (s : List ℕ) → holds (fieldMap (fieldBits x)) ≡ true
+    → readPlaceBy (readRecordBy holds) (isLit x) (recordBytes x ++ s) ≡ got x s
 unfolding readPlaceBy recordBytes
-place-back unlit s = refl
-place-back (alone a) s = alone-back a s
-place-back (shared a b) s = rw append-assoc (shared-back a b s)
+place-back holds unlit s h = refl
+place-back holds (alone a) s h = alone-back holds a s h
+place-back holds (shared a b) s h = rw append-assoc (shared-back holds a b s h)
 
-pub places-back : (chs : Channels) → All (λ ch. PlaceBack readRecord (ch .slot)) chs
-places-back [] = tt
-places-back (ch ∷ chs) = (place-back (ch .slot), places-back chs)
-
--- the records of all places are, where each place is and lit says which of them are lit
-pub records-back : (one : Reader Slot) (lit : ℕ → Bool) (chs : Channels) (p : ℕ) (s : List ℕ) → All (λ ch. PlaceBack one (ch .slot)) chs
-    → ((j : ℕ) → j < length chs → lit (p + j) ≡ litAt chs j) → readRecordsBy one lit (length chs) p (recordsBytes chs ++ s) ≡ got chs s
+-- and what all of them hold, where lit says which of them are lit
+pub records-back : (holds : ℕ → Bool) (lit : ℕ → Bool) (chs : Channels) (p : ℕ) (s : List ℕ) → All (λ ch. holds (fieldMap (fieldBits (ch .slot))) ≡ true) chs
+    → ((j : ℕ) → j < length chs → lit (p + j) ≡ litAt chs j) → readRecordsBy (readRecordBy holds) lit (length chs) p (recordsBytes chs ++ s) ≡ got chs s
 unfolding readRecordsBy recordsBytes
-records-back one lit [] p s k h = refl
-records-back one lit (ch ∷ chs) p s k h =
+records-back holds lit [] p s k h = refl
+records-back holds lit (ch ∷ chs) p s k h =
     let e : lit p ≡ isLit (ch .slot) = rw add-zero at (h 0 (omega arith)) in
-    let t = records-back one lit chs (suc p) s (k .1) (λ j l. rw (suc-add, ← add-suc) (h (suc j) (omega arith))) in
-    rw (append-assoc, e, k .0 (recordsBytes chs ++ s), t)
+    let t = records-back holds lit chs (suc p) s (k .1) (λ j l. rw (suc-add, ← add-suc) (h (suc j) (omega arith))) in
+    rw (append-assoc, e, place-back holds (ch .slot) (recordsBytes chs ++ s) (k .0), t)

@@ -16,7 +16,7 @@ use Rattle.refusals.specs.declared.Refusal.the-variants.{BadField}
 use Rattle.form.specs.Bytes.{numberIn}
 use Rattle.form.specs.Form.{present, optionalBytes, numberWidth, remarkWidth, accountWidth, circuitBytes, fieldBits, fieldMap, recordBytes, recordsBytes}
 use Rattle.form.specs.Reader.{byte, bytes}
-use Rattle.form.specs.Reading.{readOptional, readCircuit, mapHolds, readSecond, readRecord, readPlaceBy, readPlace, readRecordsBy, readRecords}
+use Rattle.form.specs.Reading.{readOptional, readCircuit, mapHolds, readSecond, readRecordBy, readRecord, readPlaceBy, readPlace, readRecordsBy, readRecords}
 use Rattle.form.proofs.Numbers.{high-is}
 use Rattle.form.proofs.FieldMap.{field-map-is, second-absent}
 use Rattle.form.proofs.Trip.{in-order}
@@ -72,7 +72,7 @@ second-wrote m s a s2 h k e t e0 true e1 =
     (wrote recordBytes s (shared a b) s3 h (rw (f, append-assoc, ← q .0 .is) e), refl)
 
 record-wrote : (s : List ℕ) → AreBytes s → Holds (λ x r. Wrote recordBytes s x r × (isLit x ≡ true)) (readRecord s)
-unfolding readRecord
+unfolding readRecordBy
 record-wrote s h =
     then-holds _ _ (byte s) _ (byte-wrote s h) λ m s1 q.
     unless-holds _ BadField (mapHolds m) s1 _ λ t.

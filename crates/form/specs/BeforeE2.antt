@@ -6,25 +6,24 @@ use mathlib.Core.Bool.{Bool, _&&_, _||_, not}
 use mathlib.Core.List.{List}
 use lib.Dec.{ltb}
 use Rattle.basis.specs.Count.{All}
-use Rattle.slots.specs.declared.Slot.{Slot}
 use Rattle.lit_words.specs.Lit.{bitOf}
 use Rattle.channels.specs.Channels.{Channels, circuits}
+use Rattle.ring.specs.Table.{meetsRules}
 use Rattle.ring.specs.declared.Answered.{Answered}
 use Rattle.form.specs.Form.{formOf}
-use Rattle.form.specs.Reader.{Reader}
-use Rattle.form.specs.Reading.{readRecordBy, checked, readBy, answeredBy, readOf}
+use Rattle.form.specs.Reading.{Tests, unlitAbove, readBy, answeredBy, readOf}
 
 -- bits 3 to 7 were zero, and bit 2 didn't stand without bit 1
 abbrev pub mapHeldBeforeE2 : ℕ → Bool
 mapHeldBeforeE2 m = ltb m 8 && (bitOf m 1 || not (bitOf m 2))
 
--- how a record was read
-abbrev pub readRecordBeforeE2 : Reader Slot
-readRecordBeforeE2 = readRecordBy mapHeldBeforeE2
+-- what a form was tested for
+abbrev pub testsBeforeE2 : Tests
+testsBeforeE2 = record { map = unlitAbove; fields = mapHeldBeforeE2; table = meetsRules }
 
 -- how a form was read
 abbrev pub readBeforeE2 : List ℕ → Answered
-readBeforeE2 s = answeredBy (readBy readRecordBeforeE2 checked s)
+readBeforeE2 s = answeredBy (readBy testsBeforeE2 s)
 
 -- every circuit of a table has account 0
 abbrev pub NoAccounts : Channels → Type 0

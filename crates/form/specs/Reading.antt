@@ -39,11 +39,11 @@ readPorts = do
 unfoldable pub mapBit : List ℕ → ℕ → Bool
 mapBit m p = bitOf (getD m (p / 8) 0) (p % 8)
 
--- the map is one field; a bit at the limit or above is 31
-unfoldable pub readMap : ℕ → Reader (List ℕ)
-readMap limit = do
+-- the map is one field; 31 where its bits fail the test `holds`
+unfoldable pub readMapBy : ((ℕ → Bool) → Bool) → Reader (List ℕ)
+readMapBy holds = do
   m ← bytes mapWidth
-  no-31 unless noneLitFrom limit (mapBit m)
+  no-31 unless holds (mapBit m)
   give m
 
 -- an optional field of so many bytes where its bit stands, which is then not 0
@@ -75,15 +75,15 @@ readSecond a true remarked billed = do
   b ← readCircuit remarked billed
   give (shared a b)
 
--- the field map, which passes the test `holds`, then each circuit
-abbrev pub readRecordBy : (ℕ → Bool) → Reader Slot
+-- the field map, 31 where it fails the test `holds`, then each circuit
+unfoldable pub readRecordBy : (ℕ → Bool) → Reader Slot
 readRecordBy holds = do
   m ← byte
   no-31 unless holds m
   a ← readCircuit (bitOf m 0) (bitOf m 3)
   readSecond a (bitOf m 1) (bitOf m 2) (bitOf m 4)
 
-unfoldable pub readRecord : Reader Slot
+abbrev pub readRecord : Reader Slot
 readRecord = readRecordBy mapHolds
 
 -- a place whose bit doesn't stand has no record
@@ -106,28 +106,38 @@ abbrev pub readRecords : (ℕ → Bool) → ℕ → ℕ → Reader Channels
 readRecords = readRecordsBy readRecord
 
 -- the table that was read; 33 where it fails the test `meets`
-abbrev pub checkedBy : (RingTable → Bool) → List ℕ → Channels → Reader RingTable
+unfoldable pub checkedBy : (RingTable → Bool) → List ℕ → Channels → Reader RingTable
 checkedBy meets ks chs = do
   let t = withChannels (freshTable (length ks) ks) chs
   no-33 unless meets t
   give t
 
--- 33 where it breaks a ring rule
-unfoldable pub checked : List ℕ → Channels → Reader RingTable
-checked ks chs = checkedBy meetsRules ks chs
+-- what a form is tested for: the bits of its map, for the ports before it; each field map; the table at its end
+pub record Tests : Type 0 where
+  pub map : List ℕ → (ℕ → Bool) → Bool
+  pub fields : ℕ → Bool
+  pub table : RingTable → Bool
 
--- the whole form, its records read by `one`, with a check of the table at its end
-abbrev pub readBy : Reader Slot → (List ℕ → Channels → Reader RingTable) → Reader RingTable
-readBy one check = do
+-- the whole form, by such tests
+abbrev pub readBy : Tests → Reader RingTable
+readBy tests = do
   ks ← readPorts
-  m ← readMap (limitOf ks)
-  chs ← readRecordsBy one (mapBit m) placeCount 0
+  m ← readMapBy (tests .map ks)
+  chs ← readRecordsBy (readRecordBy (tests .fields)) (mapBit m) placeCount 0
   end
-  check ks chs
+  checkedBy (tests .table) ks chs
+
+-- no bit of the map stands at 2 × W or above
+abbrev pub unlitAbove : List ℕ → (ℕ → Bool) → Bool
+unlitAbove ks lit = noneLitFrom (limitOf ks) lit
+
+-- the tests of now; a table that breaks a ring rule is 33
+abbrev pub testsNow : Tests
+testsNow = record { map = unlitAbove; fields = mapHolds; table = meetsRules }
 
 -- the whole form
 unfoldable pub readTable : Reader RingTable
-readTable = readBy readRecord checked
+readTable = readBy testsNow
 
 -- a refused reading hands back the blank table
 abbrev pub answeredBy : Field RingTable → Answered
