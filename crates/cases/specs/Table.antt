@@ -425,8 +425,8 @@ rosters =
     ∷ tidyingOn rows
     gives arrangedAs (record { number = 0; values = 1 ∷ 1 ∷ [] }) (move 6 4 2 ∷ replicate 127 blank)
     (otherRoster 5 (key 1 6 ∷ key 2 5 ∷ key 2 7 ∷ key 2 8 ∷ key 3 9 ∷ []) (rest 2 2 ∷ rest 3 2 ∷ rest 3 0 ∷ rest 1 3 ∷ rest 1 0 ∷ []))
-    -- what node 2 sends: how many, and of each the number, the destination and the place; 7 among them; 6, which another node sends
-    ∷ sending rows 2 gives told (record { number = 0; values = 3 ∷ 5 ∷ 3 ∷ 2 ∷ 7 ∷ 3 ∷ 0 ∷ 8 ∷ 1 ∷ 3 ∷ [] })
+    -- what node 2 sends, of each the number, the destination and the place; 7 among them; 6, which another node sends
+    ∷ sending rows 2 gives told (record { number = 0; values = 5 ∷ 3 ∷ 2 ∷ 7 ∷ 3 ∷ 0 ∷ 8 ∷ 1 ∷ 3 ∷ [] })
     ∷ sendingNumbered rows 2 7 gives told (record { number = 0; values = 7 ∷ 3 ∷ 0 ∷ [] })
     ∷ sendingNumbered rows 2 6 gives told (record { number = 0; values = [] })
     -- nodes off the ring; and 22 before that

@@ -7,10 +7,15 @@ use native.Mathlib.Omega.{arith}
 use lib.ListN.{length, getD, take, set, replicate, length-append, length-set, length-replicate}
 use lib.Seq.{take-all, set-at, append-snoc}
 use Rattle.limits.specs.Limits.{mostPorts}
+use Rattle.lightpath.specs.Circuit.{blankCircuit}
 use Rattle.channels.specs.declared.Standing.{Standing}
 use Rattle.entries.specs.Entry.{entryOf}
 use Rattle.roster.specs.Roster.{entriesIn}
-use Rattle.roster_rows.specs.Lookups.{blank, inRoom}
+use Rattle.roster_rows.specs.Lookups.{inRoom}
+
+-- the entry with all fields zero
+abbrev pub blank : Standing
+blank = record { place = 0; circuit = blankCircuit }
 
 -- the entries of the first i keys and rests
 abbrev firstEntries : ℕ → List ℕ → List ℕ → List Standing

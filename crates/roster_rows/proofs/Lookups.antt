@@ -1,7 +1,7 @@
 -- What each lookup answers: 22, 10, the row of the node, and the circuit of a number in it. Assumes nothing.
 use Prim.Native.Nat.{ℕ, zero, suc, _-_, _*_, _^_, _≤_, _<_}
 use mathlib.Core.Path.{_≡_, refl, sym, ap, _∙_}
-use mathlib.Core.Bool.{Bool, true, false, _&&_}
+use mathlib.Core.Bool.{Bool, true, false, not, _&&_}
 use mathlib.Core.List.{List, [], _∷_}
 use native.Mathlib.Omega.{arith}
 use lib.Dec.{eqb}
@@ -18,10 +18,11 @@ use Rattle.limits.specs.Limits.{mostPorts, mostCircuits}
 use Rattle.lightpath.specs.Circuit.{onRing}
 use Rattle.channels.specs.Channels.{Channels}
 use Rattle.channels.specs.declared.Standing.{Standing}
-use Rattle.refusals.specs.Answer.{done, answerBy}
+use Rattle.refusals.specs.Refusal.{numberOf}
+use Rattle.refusals.specs.Answer.{Answer, refusal, done, _when_, answerBy}
+use Rattle.refusals.specs.declared.Refusal.{Refusal}
 use Rattle.refusals.specs.declared.Refusal.the-variants.{OffRing, BrokenRule}
 use Rattle.refusals.specs.declared.Verdict.the-variants.{Granted as granted, Refused as refused}
-use Rattle.refusals.proofs.Reasons.{in-numbers}
 use Rattle.rules.proofs.Rules.{rules-hold}
 use Rattle.entries.specs.Entry.{entryOf, inFields}
 use Rattle.entries.specs.Lists.{Rising}
@@ -36,7 +37,8 @@ use Rattle.rows.specs.declared.Row.{Row}
 use Rattle.rows.proofs.Rows.{row-sends, position-entry}
 use Rattle.rows.proofs.Held.{sends-most, held-rising, held-order, held-keyed, held-rested, keys-long, rests-same, held-sends, held-row, held-room}
 use Rattle.roster_calls.proofs.Standing.{roster-holds}
-use Rattle.roster_rows.specs.Lookups.{Sent, Lookup, found, nothing, notAsked, sentBy, lookupCauses, blank, inRoom, sentOf, rowBy, rowOfRoster, numbered, circuitBy, circuitOfRoster, lookupReasons, circuitValues, rowValues, numberValues, rowAnswer, lookupAnswer}
+use Rattle.roster_rows.specs.Lookups.{Sent, Lookup, found, nothing, notAsked, sentBy, inRoom, sentOf, looked, rowOfRoster, numbered, circuitOfRoster, lookupReasons, circuitValues, rowAnswer, lookupAnswer}
+use Rattle.roster_rows.proofs.Gathering.{blank}
 
 -- an entry of keys and rests is of the two at its position
 get-entry : (i : ℕ) (keys rests : List ℕ) (d : Standing) → i < length keys → i < length rests
@@ -74,13 +76,13 @@ numbered-nowhere node n (m ∷ es) h = go (eqb (m .circuit .source) node) (eqb (
     go true false e h rest = rw e (rest (omega arith))
     go false o e h rest = rest (omega arith)
 
--- its values are those of that circuit
-numbered-values : (n : ℕ) (ms : List Standing) → lookupAnswer (numbered n ms) ≡ done (numberValues n ms)
-numbered-values n [] = refl
-numbered-values n (m ∷ ms) = go (eqb (m .circuit .number) n) (numbered-values n ms)
+-- it is no refusal
+numbered-done : (n : ℕ) (ms : List Standing) → lookupAnswer (numbered n ms) ≡ done (lookupAnswer (numbered n ms) .values)
+numbered-done n [] = refl
+numbered-done n (m ∷ ms) = go (eqb (m .circuit .number) n) (numbered-done n ms)
   where
-    go : (o : Bool) → lookupAnswer (numbered n ms) ≡ done (numberValues n ms)
-        → lookupAnswer (pick o (found m) (numbered n ms)) ≡ done (pick o (circuitValues m) (numberValues n ms))
+    go : (o : Bool) → lookupAnswer (numbered n ms) ≡ done (lookupAnswer (numbered n ms) .values)
+        → lookupAnswer (pick o (found m) (numbered n ms)) ≡ done (lookupAnswer (pick o (found m) (numbered n ms)) .values)
     go true e = refl
     go false e = e
 
@@ -183,31 +185,38 @@ module _ (r : Roster) (s : stands r ≡ true) where
 
 -- The answers.
 module _ (r : Roster) (node : ℕ) where
+  -- a lookup in numbers: f of its answer and of its refusals
+  in-numbers : {A : Type 0} (f : A → Answer) (refuse : Refusal → A) (answer : A) (vs : List ℕ) → ((x : Refusal) → f (refuse x) ≡ refusal (numberOf x)) → f answer ≡ done vs
+      → f (looked r node refuse answer) ≡ answerBy (lookupReasons r node) vs
+  in-numbers f refuse answer vs turned served = go (stands r) (onRing (tableOf r .nodes) node)
+    where
+      go : (a b : Bool) → f (pick a (pick b answer (refuse OffRing)) (refuse BrokenRule)) ≡ answerBy ((22 when not a) ∷ (10 when not b) ∷ []) vs
+      go true true = served
+      go true false = turned OffRing
+      go false b = turned BrokenRule
+
   -- what a lookup of a row is to be, and of a number in it
   abbrev pub RowAnswered : Sent → Type 0
-  RowAnswered s = (s ≡ rowOfRoster r node) × (rowAnswer s ≡ answerBy (lookupReasons r node) (rowValues (sentBy r node)))
+  RowAnswered s = (s ≡ rowOfRoster r node) × (rowAnswer s ≡ answerBy (lookupReasons r node) (circuitValues (sentBy r node)))
 
   abbrev pub CircuitAnswered : ℕ → Lookup → Type 0
-  CircuitAnswered n a = (a ≡ circuitOfRoster r node n) × (lookupAnswer a ≡ answerBy (lookupReasons r node) (numberValues n (sentBy r node)))
+  CircuitAnswered n a = (a ≡ circuitOfRoster r node n) × (lookupAnswer a ≡ answerBy (lookupReasons r node) (lookupAnswer (numbered n (sentBy r node)) .values))
 
-  -- a row as defined has these numbers
+  -- what is as defined has these numbers
   row-is : (s : Sent) → s ≡ rowOfRoster r node → RowAnswered s
   unfolding rowOfRoster
-  row-is s e = (e, ap rowAnswer e ∙ numbers)
-    where
-      numbers : rowAnswer (rowOfRoster r node) ≡ answerBy (lookupReasons r node) (rowValues (sentBy r node))
-      numbers =
-          in-numbers (λ v. rowAnswer (rowBy r node v)) (rowValues (sentBy r node)) (rw (take-append-seam (sentBy r node))) (λ x. refl)
-          (lookupCauses r node) (lookupReasons r node) (refl, refl, (refl, refl, tt))
+  row-is s e = (
+    e,
+    ap rowAnswer e
+        ∙ in-numbers rowAnswer (λ x. sentOf [] (refused x)) (sentOf (sentBy r node) granted) (circuitValues (sentBy r node)) (λ x. refl) (rw (take-append-seam (sentBy r node))),
+  )
 
   circuit-is : (n : ℕ) (a : Lookup) → a ≡ circuitOfRoster r node n → CircuitAnswered n a
   unfolding circuitOfRoster
-  circuit-is n a e = (e, ap lookupAnswer e ∙ numbers)
-    where
-      numbers : lookupAnswer (circuitOfRoster r node n) ≡ answerBy (lookupReasons r node) (numberValues n (sentBy r node))
-      numbers =
-          in-numbers (λ v. lookupAnswer (circuitBy r node n v)) (numberValues n (sentBy r node)) (numbered-values n (sentBy r node)) (λ x. refl)
-          (lookupCauses r node) (lookupReasons r node) (refl, refl, (refl, refl, tt))
+  circuit-is n a e = (
+    e,
+    ap lookupAnswer e ∙ in-numbers lookupAnswer notAsked (numbered n (sentBy r node)) _ (λ x. refl) (numbered-done n (sentBy r node)),
+  )
 
   -- a roster that does not stand is met by 22
   module _ (fails : stands r ≡ false) where

@@ -9,8 +9,9 @@ use Rattle.basis.specs.Choice.{pick}
 use Rattle.limits.specs.Limits.{mostPorts}
 use Rattle.lightpath.specs.Circuit.{onRing, blankCircuit}
 use Rattle.channels.specs.declared.Standing.{Standing}
-use Rattle.refusals.specs.Refusal.{numberOf, Cause, _if_, judged}
-use Rattle.refusals.specs.Answer.{Answer, refusal, done, Reason, _when_}
+use Rattle.refusals.specs.Refusal.{numberOf}
+use Rattle.refusals.specs.Answer.{Answer, refusal, done, verdictAnswer, Reason, _when_}
+use Rattle.refusals.specs.declared.Refusal.{Refusal}
 use Rattle.refusals.specs.declared.Refusal.the-variants.{OffRing, BrokenRule}
 use Rattle.refusals.specs.declared.Verdict.{Verdict}
 use Rattle.refusals.specs.declared.Verdict.the-variants.{Granted as granted, Refused as refused}
@@ -25,27 +26,20 @@ pub use Rattle.roster_rows.specs.declared.Lookup.the-variants.{Found as 
 abbrev pub sentBy : Roster → ℕ → List Standing
 sentBy r node = rowOf node (entries (tableOf r .channels))
 
--- "An arrangement that no old table gives is met by 22"; then "a node off the ring", by 10
-abbrev pub lookupCauses : Roster → ℕ → List Cause
-lookupCauses r node = (BrokenRule if not (stands r)) ∷ (OffRing if not (onRing (tableOf r .nodes) node)) ∷ []
-
--- some circuits in the room of a row, those after them blank, all zeros
-abbrev pub blank : Standing
-blank = record { place = 0; circuit = blankCircuit }
-
+-- some circuits in the room of a row; those after them are blank, all zeros
 abbrev pub inRoom : List Standing → List Standing
-inRoom ms = ms ++ replicate (mostPorts - length ms) blank
+inRoom ms = ms ++ replicate (mostPorts - length ms) (record { place = 0; circuit = blankCircuit })
 
 abbrev pub sentOf : List Standing → Verdict → Sent
 sentOf ms v = record { list = inRoom ms; count = length ms; verdict = v }
 
--- the row of a node; that of a refused lookup is blank
-abbrev pub rowBy : Roster → ℕ → Verdict → Sent
-rowBy r node granted = sentOf (sentBy r node) granted
-rowBy r node (refused x) = sentOf [] (refused x)
+-- "An arrangement that no old table gives is met by 22"; then "a node off the ring", by 10; and where neither is there, the answer
+abbrev pub looked : {A : Type 0} → Roster → ℕ → (Refusal → A) → A → A
+looked r node refuse answer = pick (stands r) (pick (onRing (tableOf r .nodes) node) answer (refuse OffRing)) (refuse BrokenRule)
 
+-- the row of a node; that of a refused lookup is blank
 unfoldable pub rowOfRoster : Roster → ℕ → Sent
-rowOfRoster r node = rowBy r node (judged (lookupCauses r node))
+rowOfRoster r node = looked r node (λ x. sentOf [] (refused x)) (sentOf (sentBy r node) granted)
 
 -- of some circuits the one of a number, or that there is none
 abbrev pub numbered : ℕ → List Standing → Lookup
@@ -53,43 +47,22 @@ numbered n [] = nothing
 numbered n (m ∷ ms) = pick (eqb (m .circuit .number) n) (found m) (numbered n ms)
 
 -- the circuit of a number in the row of a node
-abbrev pub circuitBy : Roster → ℕ → ℕ → Verdict → Lookup
-circuitBy r node n granted = numbered n (sentBy r node)
-circuitBy r node n (refused x) = notAsked x
-
 unfoldable pub circuitOfRoster : Roster → ℕ → ℕ → Lookup
-circuitOfRoster r node n = circuitBy r node n (judged (lookupCauses r node))
+circuitOfRoster r node n = looked r node notAsked (numbered n (sentBy r node))
 
 -- the reasons of a refusal by number
 abbrev pub lookupReasons : Roster → ℕ → List Reason
 lookupReasons r node = (22 when not (stands r)) ∷ (10 when not (onRing (tableOf r .nodes) node)) ∷ []
 
--- the values of a circuit: "circuit NUMBER to DESTINATION place PLACE"
-abbrev pub circuitValues : Standing → List ℕ
-circuitValues m = m .circuit .number ∷ m .circuit .destination ∷ m .place ∷ []
-
--- of a row: "circuits COUNT", then those of each circuit
-abbrev pub eachValues : List Standing → List ℕ
-eachValues [] = []
-eachValues (m ∷ ms) = circuitValues m ++ eachValues ms
-
-abbrev pub rowValues : List Standing → List ℕ
-rowValues ms = length ms ∷ eachValues ms
-
--- of the one of a number, and none where there is none
-abbrev pub numberValues : ℕ → List Standing → List ℕ
-numberValues n [] = []
-numberValues n (m ∷ ms) = pick (eqb (m .circuit .number) n) (circuitValues m) (numberValues n ms)
-
--- the answers in numbers and values
-abbrev pub answeredBy : List ℕ → Verdict → Answer
-answeredBy vs granted = done vs
-answeredBy vs (refused x) = refusal (numberOf x)
+-- the answers in numbers and values: of each circuit "circuit NUMBER to DESTINATION place PLACE"
+abbrev pub circuitValues : List Standing → List ℕ
+circuitValues [] = []
+circuitValues (m ∷ ms) = m .circuit .number ∷ m .circuit .destination ∷ m .place ∷ circuitValues ms
 
 abbrev pub rowAnswer : Sent → Answer
-rowAnswer s = answeredBy (rowValues (take (s .count) (s .list))) (s .verdict)
+rowAnswer s = record { number = verdictAnswer (s .verdict) .number; values = circuitValues (take (s .count) (s .list)) }
 
 abbrev pub lookupAnswer : Lookup → Answer
-lookupAnswer (found m) = done (circuitValues m)
+lookupAnswer (found m) = done (circuitValues (m ∷ []))
 lookupAnswer nothing = done []
 lookupAnswer (notAsked x) = refusal (numberOf x)

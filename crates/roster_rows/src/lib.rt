@@ -9,7 +9,7 @@ ghost use lib.ListN.{length};
 ghost use Rattle.limits.specs.Limits.{mostPorts};
 ghost use Rattle.refusals.specs.Answer.{answerBy};
 ghost use Rattle.roster.specs.Roster.{entriesIn, stands};
-ghost use Rattle.roster_rows.specs.Lookups.{sentOf, inRoom, rowOfRoster, circuitOfRoster, lookupReasons, rowAnswer, rowValues, lookupAnswer, numberValues, sentBy};
+ghost use Rattle.roster_rows.specs.Lookups.{sentBy, inRoom, sentOf, rowOfRoster, numbered, circuitOfRoster, lookupReasons, circuitValues, rowAnswer, lookupAnswer};
 use channels::Standing;
 use lightpath::BLANK_CIRCUIT;
 use limits::MOST_PORTS;
@@ -70,7 +70,7 @@ fn gather(keys: &[u64], rests: &[u64]) -> [Standing; MOST_SENT]
 pub fn row_valid(roster: Roster, node: u8) -> Sent
     requires { ⌜ stands roster ≡ true ⌝ }
     ensures answer { λ r. ⌜ r ≡ rowOfRoster roster node ⌝ }
-    ensures numbers { λ r. ⌜ rowAnswer r ≡ answerBy (lookupReasons roster node) (rowValues (sentBy roster node)) ⌝ }
+    ensures numbers { λ r. ⌜ rowAnswer r ≡ answerBy (lookupReasons roster node) (circuitValues (sentBy roster node)) ⌝ }
 {
     let heading = roster.heading;
     if !lightpath::on_ring(heading.nodes, node) {
@@ -92,7 +92,7 @@ pub fn row_valid(roster: Roster, node: u8) -> Sent
 // The circuits that a node sends, by rising number, each with its place.
 pub fn row(roster: Roster, node: u8) -> Sent
     ensures answer { λ r. ⌜ r ≡ rowOfRoster roster node ⌝ }
-    ensures numbers { λ r. ⌜ rowAnswer r ≡ answerBy (lookupReasons roster node) (rowValues (sentBy roster node)) ⌝ }
+    ensures numbers { λ r. ⌜ rowAnswer r ≡ answerBy (lookupReasons roster node) (circuitValues (sentBy roster node)) ⌝ }
 {
     if !roster.stands() {
         return no_row(Refusal::BrokenRule);
@@ -104,7 +104,7 @@ pub fn row(roster: Roster, node: u8) -> Sent
 pub fn circuit_of_valid(roster: Roster, node: u8, number: u32) -> Lookup
     requires { ⌜ stands roster ≡ true ⌝ }
     ensures answer { λ r. ⌜ r ≡ circuitOfRoster roster node number ⌝ }
-    ensures numbers { λ r. ⌜ lookupAnswer r ≡ answerBy (lookupReasons roster node) (numberValues number (sentBy roster node)) ⌝ }
+    ensures numbers { λ r. ⌜ lookupAnswer r ≡ answerBy (lookupReasons roster node) (lookupAnswer (numbered number (sentBy roster node)) .values) ⌝ }
 {
     let heading = roster.heading;
     if !lightpath::on_ring(heading.nodes, node) {
@@ -123,7 +123,7 @@ pub fn circuit_of_valid(roster: Roster, node: u8, number: u32) -> Lookup
 // The circuit of a number that a node sends, with its place.
 pub fn circuit_of(roster: Roster, node: u8, number: u32) -> Lookup
     ensures answer { λ r. ⌜ r ≡ circuitOfRoster roster node number ⌝ }
-    ensures numbers { λ r. ⌜ lookupAnswer r ≡ answerBy (lookupReasons roster node) (numberValues number (sentBy roster node)) ⌝ }
+    ensures numbers { λ r. ⌜ lookupAnswer r ≡ answerBy (lookupReasons roster node) (lookupAnswer (numbered number (sentBy roster node)) .values) ⌝ }
 {
     if !roster.stands() {
         return Lookup::Refused(Refusal::BrokenRule);
