@@ -20,6 +20,28 @@ use Rattle.pairs.specs.declared.Found.{Found}
 use Rattle.pairs.specs.Pairs.{foundOf, Searchable}
 use Rattle.plan.specs.Planned.{Planned, Plans, Movable}
 
+-- step 3, where steps 1 and 2 find no place
+module _ (N m : ℕ) (t : Channels) (c : Circuit) (ready : Ready N m t c) (j : m ≤ joinPlace N m t c) (u : m ≤ unlitPlace N m t c) where
+  pub plan-searchable : Searchable N m t c
+  plan-searchable = record { nodes = ready .nodes; low = ready .low; pair = ready .pair j u; lane = ready .lane j u }
+
+  module _ (f : Found) (d : f ≡ foundOf N m t c) where
+    pub plan-movable : length t ≡ placeCount → Movable N f
+    plan-movable long =
+        let within : m ≤ length t = omega (arith, long, ready .low) in
+        let found = found-couple m t c within (ready .low) (plan-searchable .pair) in
+        rw d (record {
+          nodes = ready .nodes;
+          old = omega (arith, found .0 .low, ready .low);
+          both = both-old N m t c within ready j (foundPair m t c .0) (foundPair m t c .1) found;
+          lane = omega (arith, plan-searchable .lane (shareDirection N (foundPair m t c .0 .circuit) (foundPair m t c .1 .circuit)), ready .low);
+        })
+
+    pub plan-moves : (p : Planned) → Plans (rearranging N c (f .x) (f .pair .first) (f .pair .second) (f .pair .looks)) p → Plans (planOf N m t c) p
+    unfolding planOf
+    plan-moves p h = rw (le-ltb (joinPlace N m t c) m j, le-ltb (unlitPlace N m t c) m u) (rw d at h)
+
+-- by what was seen
 module _ (N m : ℕ) (t : Channels) (c : Circuit) (v : Survey) (e : v ≡ surveyOf N m t c) (ready : Ready N m t c) where
   -- a place below the limit is one that there is
   pub below-there : (p : ℕ) → p < m → p < placeCount
@@ -40,29 +62,12 @@ module _ (N m : ℕ) (t : Channels) (c : Circuit) (v : Survey) (e : v ≡ survey
     plan-lights p l d =
         rw (le-ltb (joinPlace N m t c) m (seen-alone N m t c v e j), lt-ltb (unlitPlace N m t c) m (rw same at l), ← same) d
 
-    -- where that is none, step 3 serves
-    module _ (full : m ≤ u) where
-      none : (m ≤ joinPlace N m t c) × (m ≤ unlitPlace N m t c)
-      none = (seen-alone N m t c v e j, rw same at full)
+    -- where that is none, step 2 finds none
+    pub none-unlit : m ≤ u → m ≤ unlitPlace N m t c
+    none-unlit full = rw same at full
 
-      pub plan-searchable : Searchable N m t c
-      plan-searchable = record { nodes = ready .nodes; low = ready .low; pair = ready .pair (none .0) (none .1); lane = ready .lane (none .0) (none .1) }
-
-      module _ (f : Found) (d : f ≡ foundOf N m t c) where
-        pub plan-movable : length t ≡ placeCount → Movable N f
-        plan-movable long =
-            let within : m ≤ length t = omega (arith, long, ready .low) in
-            let found = found-couple m t c within (ready .low) (plan-searchable .pair) in
-            rw d (record {
-              nodes = ready .nodes;
-              old = omega (arith, found .0 .low, ready .low);
-              both = both-old N m t c within ready (none .0) (foundPair m t c .0) (foundPair m t c .1) found;
-              lane = omega (arith, plan-searchable .lane (shareDirection N (foundPair m t c .0 .circuit) (foundPair m t c .1 .circuit)), ready .low);
-            })
-
-        pub plan-moves : (p : Planned) → Plans (rearranging N c (f .x) (f .pair .first) (f .pair .second) (f .pair .looks)) p → Plans (planOf N m t c) p
-        unfolding planOf
-        plan-moves p h = rw (le-ltb (joinPlace N m t c) m (none .0), le-ltb (unlitPlace N m t c) m (none .1)) (rw d at h)
+-- for `search (needs, rearranged)`
+pub ruleset rearranged = (array-length, plan-searchable, plan-movable, plan-moves)
 
 -- for `search (needs, chosen)`
-pub ruleset chosen = (array-length, below-there, plan-joins, plan-lights, plan-searchable, plan-movable, plan-moves)
+pub ruleset chosen = (below-there, plan-joins, plan-lights, seen-alone, none-unlit)

@@ -21,8 +21,8 @@ use moves::Moves;
 pub use plan::joined;
 pub use plan::lighted;
 pub use plan::moves_to;
-use rearrange::rearranged;
 pub use rearrange::stands_right;
+pub use rearrange::step_three;
 use survey::Survey;
 
 // A plan: which places get what, the place taken, the moves and the looks.
@@ -67,6 +67,5 @@ pub fn plan_for(
     if unlit < limit {
         return lighted(circuit, unlit);
     }
-    let found = pairs::found_for(nodes, limit, channels, circuit);
-    rearranged(nodes, circuit, found)
+    step_three(nodes, limit, channels, circuit)
 }

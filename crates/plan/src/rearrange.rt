@@ -1,14 +1,16 @@
-// Step 3 with the pair found: which circuits move, and where to.
+// Step 3: the pair that is found, which circuits move, and where to.
 
 ghost use mathlib.Core.Path.{_≡_};
-ghost use Prim.Native.Nat.{_<_};
+ghost use Prim.Native.Nat.{_<_, _≤_};
 ghost use Rattle.limits.specs.Limits.{placeCount};
-ghost use Rattle.steps.specs.Steps.{standsRight, exchanging, rearranging};
+ghost use Rattle.steps.specs.Steps.{joinPlace, unlitPlace, standsRight, exchanging, rearranging, planOf};
+ghost use Rattle.steps.specs.Ready.{Ready};
 ghost use Rattle.plan.specs.Planned.{Plans, Movable};
 use crate::Planned;
 use crate::plan::one_move;
 use crate::plan::three_moves;
 use crate::plan::two_moves;
+use channels::Channel;
 use channels::Standing;
 use lightpath::Circuit;
 use lightpath::Place;
@@ -42,8 +44,8 @@ fn exchanged(circuit: Circuit, found: Found) -> Planned
     two_moves(circuit, x, a, found.pair.looks)
 }
 
-// Step 3: 3a where a member of the pair stands right, and 3b where neither does.
-pub fn rearranged(nodes: u8, circuit: Circuit, found: Found) -> Planned
+// Step 3 with the pair found: 3a where a member of it stands right, and 3b where neither does.
+fn rearranged(nodes: u8, circuit: Circuit, found: Found) -> Planned
     requires { ⌜ Movable nodes found ⌝ }
     ensures { λ r. ⌜ Plans (rearranging nodes circuit (found .x) (found .pair .first) (found .pair .second) (found .pair .looks)) r ⌝ }
 {
@@ -56,4 +58,18 @@ pub fn rearranged(nodes: u8, circuit: Circuit, found: Found) -> Planned
         return one_move(circuit, b, a, found.pair.looks);
     }
     exchanged(circuit, found)
+}
+
+// Step 3's plan, which is the plan of the steps where steps 1 and 2 find no place.
+pub fn step_three(
+    nodes: u8,
+    limit: usize,
+    channels: [Channel; PLACE_COUNT],
+    circuit: Circuit,
+) -> Planned
+    requires { ⌜ Ready nodes limit channels circuit × (limit ≤ joinPlace nodes limit channels circuit) × (limit ≤ unlitPlace nodes limit channels circuit) ⌝ }
+    ensures { λ r. ⌜ Plans (planOf nodes limit channels circuit) r ⌝ }
+{
+    let found = pairs::found_for(nodes, limit, channels, circuit);
+    rearranged(nodes, circuit, found)
 }

@@ -12,7 +12,7 @@ use Rattle.lightpath.specs.declared.Circuit.{Circuit}
 use Rattle.channels.specs.Channels.{circuits, numbered}
 use Rattle.ports.specs.Ports.{portsAt}
 use Rattle.ports_used.specs.PortsUsed.{sends, receives}
-use Rattle.rules.proofs.Allowable.{Allowable}
+use Rattle.rules.specs.Allowable.{Allowable}
 use Rattle.refusals.specs.Refusal.{judged}
 use Rattle.refusals.specs.declared.Verdict.the-variants.{Granted as granted}
 use Rattle.ring.specs.Table.{RingTable}

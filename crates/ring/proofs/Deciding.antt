@@ -1,4 +1,4 @@
--- What an opening of a table that meets the ring rules gives, by its verdict; a circuit and its return that step 3 finds share at the lower
+-- What an opening of a table that meets the ring rules gives, by its verdict: a refusal, or the circuit placed; a circuit and its return that step 3 finds share at the lower
 -- place; the table after it meets the rules again, and the looks are at most 8,256. Assumes nothing.
 use Prim.Native.Nat.{ℕ, _+_, _≤_, _<_}
 use mathlib.Core.Path.{_≡_, refl, sym, ap, _∙_}
@@ -8,61 +8,40 @@ use native.Mathlib.Omega.{arith}
 use lib.Dec.{ltb}
 use lib.ListN.{getD}
 use borrow.Author.Tests.{not-true}
-use Rattle.limits.specs.Limits.{placeCount, leastRecords}
+use Rattle.limits.specs.Limits.{leastRecords}
 use Rattle.lightpath.specs.Circuit.{hops}
 use Rattle.lightpath.specs.declared.Circuit.{Circuit}
-use Rattle.channels.specs.Channels.{Channels}
-use Rattle.channels.specs.Change.{puts}
-use Rattle.channels.specs.Changes.{inOrder}
 use Rattle.channels.specs.declared.Standing.{Standing}
 use Rattle.ports.specs.Ports.{limitOf, portsAt}
-use Rattle.rules.proofs.Allowable.{Allowable}
-use Rattle.steps.specs.Plan.{Plan, oneMove}
-use Rattle.steps.specs.Steps.{joinPlace, unlitPlace, foundPair, looks, planOf}
+use Rattle.rules.specs.Allowable.{Allowable}
+use Rattle.steps.specs.Plan.{oneMove}
+use Rattle.steps.specs.Steps.{joinPlace, unlitPlace, foundPair, looks}
 use Rattle.steps.specs.Ready.{Ready}
 use Rattle.steps.specs.Kept.{PlanKeeps}
-use Rattle.steps.proofs.Step3.{ready}
-use Rattle.steps.proofs.Steps.{plan-serves}
 use Rattle.steps.proofs.Looks.{plan-looks}
 use Rattle.steps.proofs.BothWays.{return-stays}
 use Rattle.survey.specs.Survey.{surveyOf}
 use Rattle.survey.specs.declared.Survey.{Survey}
-use Rattle.plan.specs.Planned.{Plans}
-use Rattle.plan.specs.declared.Planned.{Planned}
-use Rattle.plan.proofs.ByValue.{planned-changes, planned-count}
 use Rattle.refusals.specs.Refusal.{Cause, _if_, judged}
 use Rattle.refusals.specs.declared.Refusal.{Refusal}
 use Rattle.refusals.specs.declared.Refusal.the-variants.{NumberLive, NoTransmitter, NoReceiver, ShortList, BrokenRule}
 use Rattle.refusals.specs.declared.Verdict.{Verdict}
 use Rattle.refusals.specs.declared.Verdict.the-variants.{Granted as granted, Refused as refused}
 use Rattle.refusals.specs.Answer.{Answer}
-use Rattle.ring.specs.Table.{RingTable, meetsRules, withChannels}
+use Rattle.ring.specs.Table.{RingTable, meetsRules}
 use Rattle.causes.specs.Causes.{namedCauses}
-use Rattle.ring.specs.Opening.{Decision, taken, usedCauses, requestCauses, openCauses, carriedOut, refusing, decidedBy, decideOf}
+use Rattle.ring.specs.Opening.{Decision, usedCauses, requestCauses, openCauses, planned, placing, refusing, decidedBy, decideOf}
 use Rattle.ring.specs.Answer.{openingAnswer}
-use Rattle.ring.proofs.TableRules.{table-rules, table-limits, some-nodes}
+use Rattle.ring.proofs.TableRules.{table-limits}
+use Rattle.ring.proofs.Placing.{placing-ready, placing-keeps}
 use Rattle.refusals.proofs.Judged.{granted-rest, judged-past, judged-stop}
 use Rattle.ring.proofs.Causes.{allowable}
-
--- the plan of the steps for a request, and the places after it
-abbrev pub planned : RingTable → Circuit → Plan
-planned t c = planOf (t .nodes) (limitOf (t .ports)) (t .channels) c
-
-abbrev pub after : RingTable → Circuit → Channels
-after t c = puts (planned t c .changes) (t .channels)
 
 -- a table that was found to break a rule is met by 22
 pub decide-unmet : (t : RingTable) (c : Circuit) (n : ℕ) (r : Bool) (d : Decision) → r ≡ meetsRules t → not r ≡ true
     → d ≡ refusing t BrokenRule → d ≡ decideOf t c n
 unfolding decideOf
 decide-unmet t c n r d e h k = rw (← e, not-true r h) k
-
--- a plan by value, below the limit, is carried out
-pub carried-out : (t : RingTable) (c : Circuit) (m : ℕ) (p : Planned) (chs : Channels) → Plans (planOf (t .nodes) m (t .channels) c) p
-    → chs ≡ puts (inOrder (p .changes)) (t .channels) → m ≡ limitOf (t .ports)
-    → record { opened = record { table = withChannels t chs; answer = taken (p .place) (p .moves .count) (p .looks) }; moves = p .moves } ≡ carriedOut t (planned t c)
-carried-out t c m p chs e f l =
-    rw (← l, f, planned-changes (t .nodes) m (t .channels) c p (e .is), ← planned-count (t .nodes) m (t .channels) c p (e .is), e .is)
 
 module _ (t : RingTable) (c : Circuit) (n : ℕ) (rules : meetsRules t ≡ true) where
   -- 22 does not come up
@@ -92,7 +71,7 @@ module _ (t : RingTable) (c : Circuit) (n : ℕ) (rules : meetsRules t ≡ true)
 
   -- so the table is ready for its steps
   open-ready : judged (openCauses t c n) ≡ granted → Ready (t .nodes) (limitOf (t .ports)) (t .channels) c
-  open-ready e = ready (t .nodes) (t .ports) (t .channels) c (table-rules t rules) (permits e)
+  open-ready e = placing-ready t rules c (permits e) (limitOf (t .ports)) refl
 
   -- where step 3 finds a pair whose hops total N, its two circuits are put together, and the lower place stays
   pub open-return : judged (openCauses t c n) ≡ granted
@@ -107,8 +86,8 @@ module _ (t : RingTable) (c : Circuit) (n : ℕ) (rules : meetsRules t ≡ true)
 
   -- and they serve it
   pub serves : judged (openCauses t c n) ≡ granted
-      → PlanKeeps (t .nodes) (t .ports) (t .channels) c (after t c) (planned t c .taken) (planned t c .moves)
-  serves e = plan-serves (t .nodes) (t .ports) (t .channels) c (table-rules t rules) (permits e)
+      → PlanKeeps (t .nodes) (t .ports) (t .channels) c (placing t c .opened .table .channels) (planned t c .taken) (planned t c .moves)
+  serves e = placing-keeps t rules c (permits e)
 
   -- whatever the answer, the table after it meets the ring rules
   pub open-rules : meetsRules (decideOf t c n .opened .table) ≡ true
@@ -136,36 +115,26 @@ pub named-granted : (N : ℕ) (c : Circuit) (n : ℕ) (v : Verdict) → v ≡ ju
 named-granted N c n v e h = granted-rest (ShortList if ltb n leastRecords) (namedCauses N c) (sym e ∙ h)
 
 -- a request that names two nodes of the ring, by the survey v of the places below the limit m
-module _ (t : RingTable) (c : Circuit) (rules : meetsRules t ≡ true) (m : ℕ) (limit : m ≡ limitOf (t .ports)) where
-  -- the places can be surveyed
-  pub survey-some : 0 < t .nodes
-  survey-some = some-nodes t rules
+module _ (t : RingTable) (c : Circuit) (m : ℕ) (v : Survey) (seen : v ≡ surveyOf (t .nodes) m (t .channels) c) (w : Verdict)
+    (is : w ≡ judged (
+    (NumberLive if ltb 0 (v .numbered))
+    ∷ (NoTransmitter if not (ltb (v .sent) (portsAt (t .ports) (c .source))))
+    ∷ (NoReceiver if not (ltb (v .received) (portsAt (t .ports) (c .destination))))
+    ∷ []
+    )) where
+  -- what was seen judges as what is in use does
+  pub in-use : w ≡ judged (usedCauses t c)
+  in-use = rw seen at is
 
-  pub survey-low : m ≤ placeCount
-  survey-low = omega (arith, limit, table-limits t rules .below)
+  pub used-refused : (r : Refusal) (d : Decision) → w ≡ refused r → d ≡ refusing t r → d ≡ decidedBy t c (judged (usedCauses t c))
+  used-refused r d h k = rw (← in-use, h) k
 
-  module _ (v : Survey) (seen : v ≡ surveyOf (t .nodes) m (t .channels) c) (w : Verdict)
-      (is : w ≡ judged (
-      (NumberLive if ltb 0 (v .numbered))
-      ∷ (NoTransmitter if not (ltb (v .sent) (portsAt (t .ports) (c .source))))
-      ∷ (NoReceiver if not (ltb (v .received) (portsAt (t .ports) (c .destination))))
-      ∷ []
-      )) where
-    -- what was seen judges as what is in use does
-    in-use : w ≡ judged (usedCauses t c)
-    in-use = rw seen at is
+  pub used-granted : (d : Decision) → w ≡ granted → d ≡ placing t c → d ≡ decidedBy t c (judged (usedCauses t c))
+  used-granted d h k = rw (← in-use, h) k
 
-    pub used-refused : (r : Refusal) (d : Decision) → w ≡ refused r → d ≡ refusing t r → d ≡ decidedBy t c (judged (usedCauses t c))
-    used-refused r d h k = rw (← in-use, h) k
-
-    pub used-granted : (d : Decision) → w ≡ granted → d ≡ carriedOut t (planned t c) → d ≡ decidedBy t c (judged (usedCauses t c))
-    used-granted d h k = rw (← in-use, h) k
-
-    -- one that is granted is ready for the steps
-    pub used-ready : judged (namedCauses (t .nodes) c) ≡ granted → w ≡ granted → Ready (t .nodes) m (t .channels) c
-    used-ready named h =
-        let all = judged-past (namedCauses (t .nodes) c) (usedCauses t c) named ∙ sym in-use ∙ h in
-        rw limit (ready (t .nodes) (t .ports) (t .channels) c (table-rules t rules) (allowable t c all))
+  -- one that is granted is one that the ports permit
+  pub used-permits : judged (namedCauses (t .nodes) c) ≡ granted → w ≡ granted → Allowable (t .nodes) (t .ports) (t .channels) c
+  used-permits named h = allowable t c (judged-past (namedCauses (t .nodes) c) (usedCauses t c) named ∙ sym in-use ∙ h)
 
 -- for `search (needs, deciding)`
-pub ruleset deciding = (decide-refused, decide-granted, named-granted, survey-some, survey-low, used-refused, used-granted, used-ready)
+pub ruleset deciding = (decide-refused, decide-granted, named-granted, used-refused, used-granted, used-permits)

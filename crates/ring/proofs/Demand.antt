@@ -10,7 +10,7 @@ use borrow.Author.Tests.{ltb-false}
 use Rattle.basis.specs.Count.{weigh, All}
 use Rattle.lightpath.specs.declared.Circuit.{Circuit}
 use Rattle.lightpath.specs.declared.Place.{Place}
-use Rattle.channels.specs.Channels.{circuits, circuitOf}
+use Rattle.channels.specs.Channels.{Channels, circuits, circuitOf}
 use Rattle.channels.proofs.Numbers.{one-place}
 use Rattle.moves.specs.Records.{movesOf, listed}
 use Rattle.moves.specs.Lent.{written}
@@ -27,14 +27,18 @@ use Rattle.refusals.specs.declared.Verdict.the-variants.{Granted as granted, Re
 use Rattle.refusals.specs.Answer.{refusal, someGiven, firstNumber, answerBy}
 use Rattle.refusals.proofs.Reasons.{none-given, some-given}
 use Rattle.ring.specs.Table.{RingTable, meetsRules, withChannels}
-use Rattle.ring.specs.Opening.{taken, Opened, Decision, openCauses, decidedBy, decideOf, openOf, lentAfter}
+use Rattle.ring.specs.Opening.{taken, Opened, Decision, openCauses, planned, placing, decidedBy, decideOf, openOf, lentAfter}
 use Rattle.ring.specs.Answer.{openingAnswer}
 use Rattle.ring.specs.Demand3.{reasons, Refused3, Served3, ServedBy, Demand3, movesIn, Demand3Lent}
 use Rattle.ring.specs.Numbers.{openReasons, openValues}
 use Rattle.refusals.proofs.Judged.{none-holds}
 use Rattle.ring.proofs.Causes.{agree}
 use Rattle.ring.proofs.Numbers.{open-numbers}
-use Rattle.ring.proofs.Deciding.{planned, after, decided, serves}
+use Rattle.ring.proofs.Deciding.{decided, serves}
+
+-- the places after a circuit was placed
+abbrev after : RingTable → Circuit → Channels
+after t c = placing t c .opened .table .channels
 
 module _ (t : RingTable) (c : Circuit) (n : ℕ) (rules : meetsRules t ≡ true) where
   -- a request that no cause meets

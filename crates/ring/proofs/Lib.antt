@@ -2,6 +2,7 @@
 -- opening and closing keep the rules, what a tidying does; and the handing on of a list that was lent.
 pub mod TableRules
 pub mod Causes
+pub mod Placing
 pub mod Deciding
 pub mod Numbers
 pub mod Demand

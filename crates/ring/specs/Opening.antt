@@ -1,5 +1,5 @@
 -- 01, "Opening a circuit": the causes of a refusal in their order, and the answer. Assumes nothing.
--- What `RingTable::open`, `decide` and `decide_valid` promise.
+-- What `RingTable::open`, `decide`, `decide_valid` and `place` promise.
 use Prim.Native.Nat.{ℕ}
 use mathlib.Core.Bool.{not}
 use mathlib.Core.List.{List, [], _∷_, _++_}
@@ -58,8 +58,16 @@ carriedOut t plan = record {
 abbrev pub refusing : RingTable → Refusal → Decision
 refusing t r = record { opened = record { table = t; answer = notOpened r }; moves = none }
 
+-- the plan of the steps for a circuit, and the circuit placed by it with nothing asked
+abbrev pub planned : RingTable → Circuit → Plan
+planned t c = planOf (t .nodes) (limitOf (t .ports)) (t .channels) c
+
+abbrev pub placing : RingTable → Circuit → Decision
+placing t c = carriedOut t (planned t c)
+
+-- a request by the verdict on it
 abbrev pub decidedBy : RingTable → Circuit → Verdict → Decision
-decidedBy t c granted = carriedOut t (planOf (t .nodes) (limitOf (t .ports)) (t .channels) c)
+decidedBy t c granted = placing t c
 decidedBy t c (refused r) = refusing t r
 
 -- an opening with a lent list of n records: 22, 20, 10, 11, 12, 13, 14, else the steps

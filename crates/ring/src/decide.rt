@@ -1,18 +1,17 @@
-// Opening a circuit.
+// Opening a circuit, and placing one with nothing asked.
 
 ghost use mathlib.Core.Path.{_≡_};
 ghost use mathlib.Core.Bool.{true};
 ghost use Rattle.moves.specs.Records.{listed};
 ghost use Rattle.ports.specs.Ports.{limitOf};
-ghost use Rattle.steps.specs.Steps.{planOf};
-ghost use Rattle.steps.specs.Ready.{Ready};
+ghost use Rattle.rules.specs.Allowable.{Allowable};
 ghost use Rattle.survey.specs.Survey.{surveyOf};
 ghost use Rattle.refusals.specs.Refusal.{judged};
 ghost use Rattle.refusals.specs.Answer.{answerBy};
 ghost use Rattle.refusals.specs.declared.Verdict.the-variants.{Granted as granted};
 ghost use Rattle.causes.specs.Causes.{namedCauses};
 ghost use Rattle.ring.specs.Table.{meetsRules};
-ghost use Rattle.ring.specs.Opening.{usedCauses, carriedOut, refusing, decidedBy, decideOf};
+ghost use Rattle.ring.specs.Opening.{usedCauses, placing, refusing, decidedBy, decideOf};
 ghost use Rattle.ring.specs.Answer.{openingAnswer};
 ghost use Rattle.ring.specs.Demand3.{Demand3};
 ghost use Rattle.ring.specs.Numbers.{openReasons, openValues};
@@ -27,10 +26,10 @@ use refusals::Verdict;
 use survey::Survey;
 
 impl RingTable {
-    // The plan is carried out: its places are changed, here and nowhere else.
-    fn serve(self, circuit: Circuit, limit: usize, seen: Survey) -> Decision
-        requires { ⌜ (limit ≡ limitOf (self .ports)) × Ready (self .nodes) limit (self .channels) circuit × (seen ≡ surveyOf (self .nodes) limit (self .channels) circuit) ⌝ }
-        ensures { λ r. ⌜ r ≡ carriedOut self (planOf (self .nodes) (limitOf (self .ports)) (self .channels) circuit) ⌝ }
+    // A circuit is placed by what was seen of the places: they are changed here and nowhere else.
+    fn place_seen(self, circuit: Circuit, limit: usize, seen: Survey) -> Decision
+        requires { ⌜ (meetsRules self ≡ true) × Allowable (self .nodes) (self .ports) (self .channels) circuit × (limit ≡ limitOf (self .ports)) × (seen ≡ surveyOf (self .nodes) limit (self .channels) circuit) ⌝ }
+        ensures { λ r. ⌜ r ≡ placing self circuit ⌝ }
     {
         let nodes = self.nodes;
         let ports = self.ports;
@@ -55,6 +54,19 @@ impl RingTable {
             },
             moves,
         }
+    }
+
+    // A circuit is placed by document 01's steps with nothing asked, in a table that meets the ring rules and whose ports permit it.
+    pub fn place(self, circuit: Circuit) -> Decision
+        requires { ⌜ (meetsRules self ≡ true) × Allowable (self .nodes) (self .ports) (self .channels) circuit ⌝ }
+        ensures { λ r. ⌜ r ≡ placing self circuit ⌝ }
+    {
+        let nodes = self.nodes;
+        let ports = self.ports;
+        let channels = self.channels;
+        let limit = ports::place_limit(ports);
+        let seen = survey::survey_places(nodes, limit, channels, circuit);
+        self.place_seen(circuit, limit, seen)
     }
 
     // The table as it was, and the refusal.
@@ -82,7 +94,7 @@ impl RingTable {
         let seen = survey::survey_places(nodes, limit, channels, circuit);
         let verdict = causes::used_verdict(ports, circuit, seen);
         match verdict {
-            Verdict::Granted => self.serve(circuit, limit, seen),
+            Verdict::Granted => self.place_seen(circuit, limit, seen),
             Verdict::Refused(refusal) => self.refuse(refusal),
         }
     }

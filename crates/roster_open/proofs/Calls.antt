@@ -23,35 +23,31 @@ use Rattle.slots.proofs.Contents.{parted}
 use Rattle.moves.specs.declared.Moves.{Moves}
 use Rattle.moves.specs.Records.{none, listed}
 use Rattle.moves.proofs.Listed.{listed-moves}
-use Rattle.ports.specs.Ports.{limitOf, portsAt}
+use Rattle.ports.specs.Ports.{limitOf}
+use Rattle.rules.specs.Allowable.{Allowable}
 use Rattle.rules.proofs.Rules.{Rules, rules-hold, limits-hold}
 use Rattle.rules.proofs.Counting.{circuits-most}
-use Rattle.steps.specs.Steps.{planOf}
+use Rattle.steps.specs.Steps.{joinPlace, unlitPlace, planOf}
 use Rattle.steps.specs.Ready.{Ready}
 use Rattle.steps.specs.Kept.{Kept, PlanKeeps}
 use Rattle.steps.specs.Plan.{Plan}
-use Rattle.steps.proofs.Step3.{ready}
-use Rattle.steps.proofs.Steps.{plan-serves}
 use Rattle.steps.proofs.Closing.{closes}
-use Rattle.survey.specs.declared.Survey.{Survey}
-use Rattle.survey.specs.Survey.{surveyOf}
 use Rattle.plan.specs.declared.Planned.{Planned}
 use Rattle.plan.specs.Planned.{Plans, plannedOf}
 use Rattle.plan.proofs.ByValue.{planned-count}
 use Rattle.refusals.specs.Refusal.{_if_, judged}
 use Rattle.refusals.specs.declared.Refusal.{Refusal}
-use Rattle.refusals.specs.declared.Refusal.the-variants.{ShortList, NumberLive, NoTransmitter, NoReceiver, NotLive}
+use Rattle.refusals.specs.declared.Refusal.the-variants.{ShortList, NotLive}
 use Rattle.refusals.specs.declared.Verdict.{Verdict}
 use Rattle.refusals.specs.declared.Verdict.the-variants.{Granted as granted, Refused as refused}
-use Rattle.refusals.proofs.Judged.{judged-past}
 use Rattle.causes.specs.Causes.{namedCauses}
-use Rattle.ring.specs.Opening.{usedCauses, carriedOut, refusing, decidedBy, decideOf}
+use Rattle.ring.specs.Opening.{usedCauses, placing, refusing, decidedBy, decideOf}
 use Rattle.ring.specs.Closing.{closeOf}
 use Rattle.ring.specs.declared.RingTable.{RingTable}
 use Rattle.ring.specs.declared.Decision.{Decision}
 use Rattle.ring.specs.declared.Answered.{Answered}
 use Rattle.ring.specs.declared.Opening.the-variants.{Taken as taken, Refused as notOpened}
-use Rattle.ring.proofs.Causes.{allowable}
+use Rattle.ring.proofs.Placing.{placing-ready, placing-keeps}
 use Rattle.ring.proofs.Deciding.{decide-refused, decide-granted, named-granted}
 use Rattle.entries.specs.Entry.{inFields}
 use Rattle.entries.specs.Lists.{numberedAt, takeOut}
@@ -63,7 +59,7 @@ use Rattle.roster.proofs.Filing.{filed-weighs, weigh-ones}
 use Rattle.roster.proofs.Standings.{entries-count, entries-circuits}
 use Rattle.roster.proofs.Arranged.{typed-weight, weight-typed, holds-lists, lists-holds}
 use Rattle.roster.proofs.Listing.{lists-room}
-use Rattle.roster_open.specs.InPlace.{OpenedIn, OpensIn, ClosesIn, replacedAll, Replaces, Allowed, Carries}
+use Rattle.roster_open.specs.InPlace.{OpenedIn, OpensIn, ClosesIn, replacedAll, Replaces}
 use Rattle.roster_open.proofs.Moved.{numberIn, entries-single, opened-entries, moved-there, withoutAt, closed-entries}
 use Rattle.roster_open.proofs.Replaced.{lists-without, taken-number, found-none, found-some, without-length}
 
@@ -122,7 +118,7 @@ module _ (h : Heading) (keys rests : List ℕ) (H : HoldsTable (tableIn h keys r
 
   -- ---- an opening
 
-  module _ (c : Circuit) (keeps : Carries t c) where
+  module _ (c : Circuit) (may : Allowable N ks chs c) where
     abbrev plan : Plan
     plan = planOf N (limitOf ks) chs c
 
@@ -130,7 +126,7 @@ module _ (h : Heading) (keys rests : List ℕ) (H : HoldsTable (tableIn h keys r
     after = puts (plan .changes) chs
 
     k : PlanKeeps N ks chs c after (plan .taken) (plan .moves)
-    k = keeps .keeps
+    k = placing-keeps t (H .holds .rules) c may
 
     -- there is room for one more
     room : h .count < mostCircuits
@@ -145,7 +141,10 @@ module _ (h : Heading) (keys rests : List ℕ) (H : HoldsTable (tableIn h keys r
           circuits-most N ks after (rules-hold N ks after (k .kept .rules)),
         )
 
-    module _ (p : Planned) (is : Plans plan p) where
+    module _ (m : ℕ) (limit : m ≡ limitOf ks) (p : Planned) (made : Plans (planOf N m chs c) p) where
+      is : Plans plan p
+      is = rw limit at made
+
       -- it is taken at a place that there is
       pub opened-there : p .place .0 < placeCount
       opened-there =
@@ -187,7 +186,7 @@ module _ (h : Heading) (keys rests : List ℕ) (H : HoldsTable (tableIn h keys r
           opened-lists =
               rw (opened-entries N ks chs facts c after (plan .taken) (plan .moves) k typed, ← taken-is) filed-lists
 
-          pub opened-answer : OpensIn (carriedOut t plan) keys′ rests′
+          pub opened-answer : OpensIn (placing t c) keys′ rests′
               (record { heading = record { ports = h .ports; nodes = h .nodes; count = h .count + 1 }; answer = taken (p .place) (p .moves .count) (p .looks); moves = p .moves })
           opened-answer = record {
             answer = rw (planned-count N (limitOf ks) chs c p (is .is)) (answers (is .is));
@@ -207,23 +206,13 @@ module _ (h : Heading) (keys rests : List ℕ) (H : HoldsTable (tableIn h keys r
   opened-refused r = record { answer = refl; moves = refl; after = H }
 
   module _ (c : Circuit) where
-    -- a request that nothing is against is ready for the steps, and they serve it
-    module _ (g : Allowed t c) where
-      pub serve-ready : (m : ℕ) → m ≡ limitOf ks → Ready N m chs c
-      serve-ready m e = rw e (ready N ks chs c facts (allowable t c (g .is)))
-
-      pub serve-carries : Carries t c
-      serve-carries = record { keeps = plan-serves N ks chs c facts (allowable t c (g .is)) }
-
-    pub serve-plan : (m : ℕ) (p : Planned) → m ≡ limitOf ks → Plans (planOf N m chs c) p → Plans (planOf N (limitOf ks) chs c) p
-    serve-plan m p e h = rw e at h
+    -- one that the ports permit is ready for the steps
+    pub placed-ready : Allowable N ks chs c → (m : ℕ) → m ≡ limitOf ks → Ready N m chs c
+    placed-ready may m limit = placing-ready t (H .holds .rules) c may m limit
 
     -- by what is in use
     module _ (w : Verdict) (in-use : w ≡ judged (usedCauses t c)) where
-      pub named-allowed : judged (namedCauses N c) ≡ granted → w ≡ granted → Allowed t c
-      named-allowed named e = record { is = judged-past (namedCauses N c) (usedCauses t c) named ∙ sym in-use ∙ e }
-
-      pub named-served : (keys′ rests′ : List ℕ) (o : OpenedIn) → w ≡ granted → OpensIn (carriedOut t (planOf N (limitOf ks) chs c)) keys′ rests′ o
+      pub named-served : (keys′ rests′ : List ℕ) (o : OpenedIn) → w ≡ granted → OpensIn (placing t c) keys′ rests′ o
           → OpensIn (decidedBy t c (judged (usedCauses t c))) keys′ rests′ o
       named-served keys′ rests′ o e f = rw (← in-use, e) f
 
@@ -311,21 +300,14 @@ module _ (N m : ℕ) (keys rests : List ℕ) (count : ℕ) (c : Circuit) (built 
   pub built-ready : Ready N m (placesOf keys rests count) c → Ready N m built c
   built-ready r = rw is r
 
-  pub built-seen : (v : Survey) → v ≡ surveyOf N m (placesOf keys rests count) c → v ≡ surveyOf N m built c
-  built-seen v e = rw is e
+  pub built-joined : m ≤ joinPlace N m (placesOf keys rests count) c → m ≤ joinPlace N m built c
+  built-joined l = rw is l
+
+  pub built-unlit : m ≤ unlitPlace N m (placesOf keys rests count) c → m ≤ unlitPlace N m built c
+  built-unlit l = rw is l
 
   pub built-plans : (p : Planned) → Plans (planOf N m built c) p → Plans (planOf N m (placesOf keys rests count) c) p
   built-plans p d = rw is at d
-
--- what was seen judges as what is in use does
-pub seen-judges : (h : Heading) (m : ℕ) (keys rests : List ℕ) (c : Circuit) (v : Survey) (w : Verdict) → v ≡ surveyOf (h .nodes) m (placesOf keys rests (h .count)) c
-    → w ≡ judged (
-    (NumberLive if ltb 0 (v .numbered))
-    ∷ (NoTransmitter if not (ltb (v .sent) (portsAt (h .ports) (c .source))))
-    ∷ (NoReceiver if not (ltb (v .received) (portsAt (h .ports) (c .destination))))
-    ∷ []
-    ) → w ≡ judged (usedCauses (tableIn h keys rests) c)
-seen-judges h m keys rests c v w seen is = rw seen at is
 
 -- a refusal by value
 pub refused-in : (h : Heading) (r : Refusal) (ms : Moves) → ms ≡ none
@@ -333,13 +315,13 @@ pub refused-in : (h : Heading) (r : Refusal) (ms : Moves) → ms ≡ none
 refused-in h r ms e = rw e
 
 -- for `search (needs, planning)`
-pub ruleset planning = (built-ready, built-seen, built-plans)
+pub ruleset planning = (built-ready, built-joined, built-unlit, built-plans)
 
 -- for `search (needs, opening)`
-pub ruleset opening = (within-keys, within-rests, serve-ready, serve-carries, serve-plan, named-allowed, named-served, named-refused, open-named, open-served, open-refused)
+pub ruleset opening = (open-named, open-served, open-refused)
 
--- for `search (needs, carrying)`
-pub ruleset carrying = (within-keys, within-rests, opened-there, moved-listed, moved-room, moved-byte, opened-answer)
+-- for `search (needs, placed)`
+pub ruleset placed = (within-keys, within-rests, placed-ready, opened-there, moved-listed, moved-room, moved-byte, opened-answer)
 
 -- for `search (needs, closing)`
 pub ruleset closing = (within-keys, within-rests, closed-missed, closed-found)

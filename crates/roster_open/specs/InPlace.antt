@@ -1,5 +1,5 @@
--- 02, E7: an opening and a closing on keys and rests in place give what the old arrangement gives. Assumes nothing. What `open_in` and
--- `close_in` promise.
+-- 02, E7: an opening, a placing and a closing on keys and rests in place give what the old arrangement gives. Assumes nothing. What `open_in`,
+-- `place_in` and `close_in` promise.
 use Prim.Native.Nat.{ℕ, _≤_, _<_}
 use mathlib.Core.Path.{_≡_}
 use mathlib.Core.List.{List, [], _∷_, map}
@@ -7,17 +7,8 @@ use lib.Dec.{eqb}
 use Rattle.basis.specs.Choice.{pick}
 use Rattle.basis.specs.Count.{tally, All}
 use Rattle.limits.specs.Limits.{placeCount}
-use Rattle.lightpath.specs.declared.Circuit.{Circuit}
-use Rattle.channels.specs.Change.{puts}
 use Rattle.channels.specs.declared.Standing.{Standing}
 use Rattle.moves.specs.declared.Move.{Move}
-use Rattle.ports.specs.Ports.{limitOf}
-use Rattle.steps.specs.Steps.{planOf}
-use Rattle.steps.specs.Kept.{PlanKeeps}
-use Rattle.refusals.specs.Refusal.{judged}
-use Rattle.refusals.specs.declared.Verdict.the-variants.{Granted as granted}
-use Rattle.ring.specs.Opening.{requestCauses}
-use Rattle.ring.specs.declared.RingTable.{RingTable}
 use Rattle.ring.specs.declared.Decision.{Decision}
 use Rattle.ring.specs.declared.Answered.{Answered}
 use Rattle.roster.specs.Held.{HoldsTable}
@@ -52,12 +43,3 @@ Single es = (n : ℕ) → tally (λ e. e .circuit .number) n es ≤ 1
 -- the rests after several moves
 pub record Replaces (ms : List Move) (keys rests : List ℕ) (count : ℕ) (rests′ : List ℕ) : Type 0 where
   pub after : (es : List Standing) → Single es → All (λ m. m .to .0 < placeCount) ms → Lists es keys rests count → Lists (replacedAll ms es) keys rests′ count
-
--- nothing is against a request
-pub record Allowed (t : RingTable) (c : Circuit) : Type 0 where
-  pub is : judged (requestCauses t c) ≡ granted
-
--- the plan for a request keeps what an opening keeps
-pub record Carries (t : RingTable) (c : Circuit) : Type 0 where
-  pub keeps : PlanKeeps (t .nodes) (t .ports) (t .channels) c (puts (planOf (t .nodes) (limitOf (t .ports)) (t .channels) c .changes) (t .channels))
-      (planOf (t .nodes) (limitOf (t .ports)) (t .channels) c .taken) (planOf (t .nodes) (limitOf (t .ports)) (t .channels) c .moves)

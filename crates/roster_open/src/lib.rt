@@ -1,4 +1,4 @@
-// Opening and closing circuits on the entries of a roster, in place: no table is copied, and none is built but for step 3.
+// Opening, placing and closing circuits on the entries of a roster, in place: no table is copied, and none is built but for step 3.
 
 mod close;
 mod entries_moved;
@@ -7,6 +7,7 @@ mod open;
 pub use close::close_in;
 use moves::Moves;
 pub use open::open_in;
+pub use open::place_in;
 use refusals::Verdict;
 use ring::Opening;
 use roster::Heading;

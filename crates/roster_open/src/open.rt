@@ -1,8 +1,9 @@
-// Opening a circuit, in place.
+// Opening a circuit, and placing one with nothing asked, in place.
 
 ghost use mathlib.Core.Path.{_≡_};
 ghost use Rattle.moves.specs.Records.{none};
 ghost use Rattle.ports.specs.Ports.{limitOf};
+ghost use Rattle.rules.specs.Allowable.{Allowable};
 ghost use Rattle.steps.specs.Steps.{planOf};
 ghost use Rattle.steps.specs.Ready.{Ready};
 ghost use Rattle.survey.specs.Survey.{surveyOf};
@@ -10,11 +11,11 @@ ghost use Rattle.plan.specs.Planned.{Plans};
 ghost use Rattle.refusals.specs.Refusal.{judged};
 ghost use Rattle.refusals.specs.declared.Verdict.the-variants.{Granted as granted};
 ghost use Rattle.causes.specs.Causes.{namedCauses};
-ghost use Rattle.ring.specs.Opening.{usedCauses, carriedOut, decidedBy, decideOf};
+ghost use Rattle.ring.specs.Opening.{usedCauses, placing, decidedBy, decideOf};
 ghost use Rattle.ring.specs.declared.Opening.the-variants.{Refused as notOpened};
 ghost use Rattle.roster.specs.Roster.{placesOf};
 ghost use Rattle.roster.specs.Held.{tableIn, HoldsTable};
-ghost use Rattle.roster_open.specs.InPlace.{OpensIn, Allowed, Carries};
+ghost use Rattle.roster_open.specs.InPlace.{OpensIn};
 use crate::OpenedIn;
 use crate::entries_moved::replace_all;
 use lightpath::Circuit;
@@ -59,20 +60,22 @@ fn plan_in(
         return plan::lighted(circuit, unlit);
     }
     let channels = roster::places_of(keys, rests, heading.count as usize);
-    plan::plan_for(nodes, limit, channels, circuit, seen)
+    plan::step_three(nodes, limit, channels, circuit)
 }
 
-// The plan is carried out: the moved circuits get their new places, and the new one is filed.
-fn carry_out(
+// A circuit is placed by what was seen of the entries: the moved circuits get their new places, and the new one is filed.
+fn place_seen(
     heading: Heading,
     keys: &mut [u64],
     rests: &mut [u64],
     circuit: Circuit,
-    planned: Planned,
+    limit: usize,
+    seen: Survey,
 ) -> OpenedIn
-    requires { ⌜ HoldsTable (tableIn heading (now keys) (now rests)) heading (now keys) (now rests) × Plans (planOf (heading .nodes) (limitOf (heading .ports)) (placesOf (now keys) (now rests) (heading .count)) circuit) planned × Carries (tableIn heading (now keys) (now rests)) circuit ⌝ }
-    ensures { λ r. ⌜ OpensIn (carriedOut (tableIn heading (now (keys .entry)) (now (rests .entry))) (planOf (heading .nodes) (limitOf (heading .ports)) (placesOf (now (keys .entry)) (now (rests .entry)) (heading .count)) circuit)) (now (keys .exit)) (now (rests .exit)) r ⌝ }
+    requires { ⌜ HoldsTable (tableIn heading (now keys) (now rests)) heading (now keys) (now rests) × Allowable (heading .nodes) (heading .ports) (placesOf (now keys) (now rests) (heading .count)) circuit × (limit ≡ limitOf (heading .ports)) × (seen ≡ surveyOf (heading .nodes) limit (placesOf (now keys) (now rests) (heading .count)) circuit) ⌝ }
+    ensures { λ r. ⌜ OpensIn (placing (tableIn heading (now (keys .entry)) (now (rests .entry))) circuit) (now (keys .exit)) (now (rests .exit)) r ⌝ }
 {
+    let planned = plan_in(heading, limit, keys, rests, circuit, seen);
     let ports = heading.ports;
     let count = heading.count as usize;
     let place = planned.place;
@@ -94,36 +97,15 @@ fn carry_out(
     }
 }
 
-// A request that nothing is against is served by the steps.
-fn serve(
-    heading: Heading,
-    keys: &mut [u64],
-    rests: &mut [u64],
-    circuit: Circuit,
-    limit: usize,
-    seen: Survey,
-) -> OpenedIn
-    requires { ⌜ HoldsTable (tableIn heading (now keys) (now rests)) heading (now keys) (now rests) × Allowed (tableIn heading (now keys) (now rests)) circuit × (limit ≡ limitOf (heading .ports)) × (seen ≡ surveyOf (heading .nodes) limit (placesOf (now keys) (now rests) (heading .count)) circuit) ⌝ }
-    ensures { λ r. ⌜ OpensIn (carriedOut (tableIn heading (now (keys .entry)) (now (rests .entry))) (planOf (heading .nodes) (limitOf (heading .ports)) (placesOf (now (keys .entry)) (now (rests .entry)) (heading .count)) circuit)) (now (keys .exit)) (now (rests .exit)) r ⌝ }
-{
-    let planned = plan_in(heading, limit, keys, rests, circuit, seen);
-    carry_out(heading, keys, rests, circuit, planned)
-}
-
-// What is refused by what was seen of the entries.
-fn judge(
-    heading: Heading,
-    limit: usize,
-    keys: &[u64],
-    rests: &[u64],
-    circuit: Circuit,
-    seen: Survey,
-) -> Verdict
-    requires { ⌜ seen ≡ surveyOf (heading .nodes) limit (placesOf (now keys) (now rests) (heading .count)) circuit ⌝ }
-    ensures { λ r. ⌜ r ≡ judged (usedCauses (tableIn heading (now (keys .entry)) (now (rests .entry))) circuit) ⌝ }
+// A circuit is placed by document 01's steps with nothing asked, where the ports permit it.
+pub fn place_in(heading: Heading, keys: &mut [u64], rests: &mut [u64], circuit: Circuit) -> OpenedIn
+    requires { ⌜ HoldsTable (tableIn heading (now keys) (now rests)) heading (now keys) (now rests) × Allowable (heading .nodes) (heading .ports) (placesOf (now keys) (now rests) (heading .count)) circuit ⌝ }
+    ensures { λ r. ⌜ OpensIn (placing (tableIn heading (now (keys .entry)) (now (rests .entry))) circuit) (now (keys .exit)) (now (rests .exit)) r ⌝ }
 {
     let ports = heading.ports;
-    causes::used_verdict(ports, circuit, seen)
+    let limit = ports::place_limit(ports);
+    let seen = roster_survey::survey_entries(heading, limit, keys, rests, circuit);
+    place_seen(heading, keys, rests, circuit, limit, seen)
 }
 
 // An opening of a request that names two nodes of the ring: by what is seen of the entries.
@@ -134,9 +116,9 @@ fn open_named(heading: Heading, keys: &mut [u64], rests: &mut [u64], circuit: Ci
     let ports = heading.ports;
     let limit = ports::place_limit(ports);
     let seen = roster_survey::survey_entries(heading, limit, keys, rests, circuit);
-    let verdict = judge(heading, limit, keys, rests, circuit, seen);
+    let verdict = causes::used_verdict(ports, circuit, seen);
     match verdict {
-        Verdict::Granted => serve(heading, keys, rests, circuit, limit, seen),
+        Verdict::Granted => place_seen(heading, keys, rests, circuit, limit, seen),
         Verdict::Refused(refusal) => refuse(heading, refusal),
     }
 }

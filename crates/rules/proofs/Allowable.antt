@@ -1,5 +1,5 @@
--- What an opening needs of a request, and what it leaves: with the new circuit, no node has more circuits than ports and no number is
--- there twice. Assumes nothing.
+-- What a request that the ports permit leaves: with the new circuit, no node has more circuits than ports and no number is there twice.
+-- Assumes nothing.
 use Prim.Native.Nat.{ℕ, suc, _≤_, _<_}
 use mathlib.Core.Path.{_≡_}
 use mathlib.Core.Bool.{true}
@@ -10,19 +10,11 @@ use lib.ListN.{getD}
 use borrow.Author.Tests.{eq-eqb}
 use Rattle.basis.specs.Count.{tally, distinct}
 use Rattle.basis.proofs.Bools.{and-both, bit-eq, bit-ne}
-use Rattle.lightpath.specs.Circuit.{joins}
 use Rattle.lightpath.specs.declared.Circuit.{Circuit}
-use Rattle.channels.specs.Channels.{Channels, circuits, numbered}
+use Rattle.channels.specs.Channels.{Channels, circuits}
 use Rattle.ports.specs.Ports.{portsAt}
-use Rattle.ports_used.specs.PortsUsed.{sends, receives}
+use Rattle.rules.specs.Allowable.{Allowable}
 use Rattle.rules.proofs.Rules.{PortsHold, Rules}
-
--- the circuit c joins two nodes of the ring, its number is not live, and its ports are free
-pub record Allowable (N : ℕ) (ks : List ℕ) (t : Channels) (c : Circuit) : Type 0 where
-  pub ends : joins N c ≡ true
-  pub unused : numbered (c .number) (circuits t) ≡ 0
-  pub sender : sends (c .source) (circuits t) < portsAt ks (c .source)
-  pub receiver : receives (c .destination) (circuits t) < portsAt ks (c .destination)
 
 -- a free port at the new circuit's node leaves room for it at every node
 room : (ks : List ℕ) (key : Circuit → ℕ) (c : Circuit) (cs : List Circuit) → tally key (key c) cs < portsAt ks (key c)

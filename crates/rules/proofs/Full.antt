@@ -19,8 +19,9 @@ use Rattle.channels.specs.Channels.{Channels, at, slots}
 use Rattle.channels.proofs.Places.{take-held}
 use Rattle.channels.proofs.Nonsharing.{below-length, below-at}
 use Rattle.ports.specs.Ports.{limitOf}
+use Rattle.rules.specs.Allowable.{Allowable}
 use Rattle.rules.proofs.Rules.{Rules, limits-hold}
-use Rattle.rules.proofs.Allowable.{Allowable, ports-more}
+use Rattle.rules.proofs.Allowable.{ports-more}
 use Rattle.rules.proofs.Counting.{Settled, Full, settled}
 
 module _ (N : ℕ) (ks : List ℕ) (t : Channels) (c : Circuit) (rules : Rules N ks t) (may : Allowable N ks t c)

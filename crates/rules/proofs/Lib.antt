@@ -1,4 +1,4 @@
--- The laws of the ring rules: the test as facts, tables from before E1, which places stay unlit, what fits at a place, what an opening needs, and
+-- The laws of the ring rules: the test as facts, tables from before E1, which places stay unlit, what fits at a place, what the ports permit, and
 -- the paper's counting; and the loops that test numbers and ports in use.
 pub mod Rules
 pub mod BeforeE1

@@ -20,9 +20,9 @@ use Rattle.channels.proofs.Places.{weigh-place}
 use Rattle.channels.proofs.Nonsharing.{Stands}
 use Rattle.ports.specs.Ports.{limitOf}
 use Rattle.rules.specs.Rules.{fits}
+use Rattle.rules.specs.Allowable.{Allowable}
 use Rattle.rules.proofs.Rules.{Rules, limits-hold}
 use Rattle.rules.proofs.Fits.{alone-fits, alone-joins, together-fits}
-use Rattle.rules.proofs.Allowable.{Allowable}
 use Rattle.steps.specs.Plan.{Plan, joining, lighting, oneMove, twoMoves, threeMoves}
 use Rattle.steps.specs.Kept.{PlanKeeps}
 use Rattle.steps.proofs.Sound.{Inside, has, old-place}

@@ -16,9 +16,10 @@ use Rattle.channels.proofs.Puts.{puts-above}
 use Rattle.moves.specs.Records.{mostMoves}
 use Rattle.ports.specs.Ports.{limitOf}
 use Rattle.rules.specs.Rules.{unlitFrom}
+use Rattle.rules.specs.Allowable.{Allowable}
 use Rattle.rules.proofs.Rules.{Rules}
 use Rattle.rules.proofs.Unlit.{unlit-still}
-use Rattle.rules.proofs.Allowable.{Allowable, ports-more, numbers-more}
+use Rattle.rules.proofs.Allowable.{ports-more, numbers-more}
 use Rattle.steps.specs.Kept.{Kept, PlanKeeps}
 use Rattle.steps.proofs.Sound.{Shift, shifts, shift-length, Gets, Sound, keeps, placed}
 use Rattle.steps.proofs.Carrying.{follows-to}

@@ -16,8 +16,8 @@ use Rattle.slots.specs.Slot.{isUnlit, isAlone}
 use Rattle.channels.specs.Channels.{Channels, at, slots}
 use Rattle.channels.proofs.Nonsharing.{below-at}
 use Rattle.ports.specs.Ports.{limitOf, wavelengths}
+use Rattle.rules.specs.Allowable.{Allowable}
 use Rattle.rules.proofs.Rules.{Rules, limits-hold}
-use Rattle.rules.proofs.Allowable.{Allowable}
 use Rattle.rules.proofs.Pair.{pair-exists}
 use Rattle.rules.proofs.Lane.{alone-exists}
 use Rattle.rules.proofs.Full.{table-full}

@@ -22,8 +22,8 @@ use Rattle.channels.specs.Nonsharing.{standingAt, adjacentPair}
 use Rattle.channels.specs.declared.Standing.{Standing}
 use Rattle.channels.proofs.Nonsharing.{Stands, Lower, stands-alone}
 use Rattle.ports.specs.Ports.{limitOf}
+use Rattle.rules.specs.Allowable.{Allowable}
 use Rattle.rules.proofs.Rules.{Rules, limits-hold}
-use Rattle.rules.proofs.Allowable.{Allowable}
 use Rattle.steps.specs.Plan.{joining, lighting, oneMove, twoMoves, threeMoves}
 use Rattle.steps.specs.Steps.{joinPlace, unlitPlace, nowhere, newcomer, candidates, foundPair, looks, standsRight, lowestAlone, xOf, rearranging, stepThree, planOf}
 use Rattle.steps.proofs.Five.{Good, joined, lighted, one-moved, two-moved, three-moved}

@@ -19,14 +19,11 @@ lighted-requires c κs = search (needs, chosen)
 returns-2 : tie.Need-returns-2
 returns-2 c = search (needs, chosen)
 
-found-for-requires : tie.Need-found-for-requires
-found-for-requires c κs = search (needs, chosen)
-
-rearranged-requires : tie.Need-rearranged-requires
-rearranged-requires c κs = search (needs, chosen)
+step-three-requires : tie.Need-step-three-requires
+step-three-requires c κs = search (needs, chosen)
 
 returns-3 : tie.Need-returns-3
-returns-3 c = search (needs, chosen)
+returns-3 c = search needs
 
 pub plan-for-spec : {M : Type 1} → statement M
 plan-for-spec =
@@ -37,6 +34,5 @@ plan-for-spec =
     unlit-place-requires
     lighted-requires
     returns-2
-    found-for-requires
-    rearranged-requires
+    step-three-requires
     returns-3)

@@ -1,4 +1,5 @@
 -- `ring::RingTable::decide_named` meets its contract. Assumes nothing.
+use Rattle.ring.proofs.Placing.{places}
 use Rattle.ring.proofs.Deciding.{deciding}
 use borrow.Author.Needs.{needs}
 use Rattle.ring.proofs.RingTable.decide_named.Statement.{statement}
@@ -8,7 +9,7 @@ place-limit-requires : tie.Need-place-limit-requires
 place-limit-requires c κs = search needs
 
 survey-places-requires : tie.Need-survey-places-requires
-survey-places-requires c κs = search (needs, deciding)
+survey-places-requires c κs = search (needs, places)
 
 used-verdict-requires : tie.Need-used-verdict-requires
 used-verdict-requires c κs = search needs
@@ -16,8 +17,8 @@ used-verdict-requires c κs = search needs
 enum-told : tie.Need-enum-told
 enum-told c = search needs
 
-serve-requires : tie.Need-serve-requires
-serve-requires c κs = search (needs, deciding)
+place-seen-requires : tie.Need-place-seen-requires
+place-seen-requires c κs = search (needs, deciding)
 
 enum-known-verdict : tie.Need-enum-known-verdict
 enum-known-verdict c = search needs
@@ -39,7 +40,7 @@ decide-named-spec =
     survey-places-requires
     used-verdict-requires
     enum-told
-    serve-requires
+    place-seen-requires
     enum-known-verdict
     refuse-requires
     returns

@@ -1,6 +1,7 @@
 -- `roster_open::open_named` meets its contract. Assumes nothing.
 use borrow.Author.Needs.{needs}
-use Rattle.roster_open.proofs.Calls.{named-allowed, named-served, named-refused}
+use Rattle.ring.proofs.Deciding.{in-use, used-permits}
+use Rattle.roster_open.proofs.Calls.{named-served, named-refused}
 use Rattle.roster_open.proofs.open.open_named.Statement.{statement}
 use Rattle.roster_open.proofs.open.open_named.Tie as tie
 
@@ -10,19 +11,21 @@ place-limit-requires c κs = search needs
 survey-entries-requires : tie.Need-survey-entries-requires
 survey-entries-requires c κs = search needs
 
-judge-requires : tie.Need-judge-requires
-judge-requires c κs = search needs
+used-verdict-requires : tie.Need-used-verdict-requires
+used-verdict-requires c κs = search needs
 
 enum-told : tie.Need-enum-told
 enum-told c = search needs
 
-serve-requires : tie.Need-serve-requires
-serve-requires c κs =
-    let start = c .before .before .before .before .before .before .before .before .before .before .before .before .before .before .pre in (
+place-seen-requires : tie.Need-place-seen-requires
+place-seen-requires c κs =
+    let start = c .before .before .before .before .before .before .before .before .before .before .before .before .pre in
+    let limit = c .before .before .before .before .before .before .before .before .place-limit in
+    let seen = c .before .before .before .before .before .survey-entries .ensures in (
       start .0,
-      named-allowed _ _ _ (start .0) _ _ (c .before .before .before .before .judge .ensures) (start .1) (c .before .before .enum-told .given .1),
-      c .before .before .before .before .before .before .before .before .before .before .place-limit .ensures,
-      c .before .before .before .before .before .before .before .survey-entries .ensures,
+      used-permits _ _ (limit .result) _ seen _ (c .before .before .before .before .used-verdict .ensures) (start .1) (c .before .before .enum-told .given .1),
+      limit .ensures,
+      seen,
     )
 
 enum-known-verdict : tie.Need-enum-known-verdict
@@ -39,8 +42,8 @@ same-length-2 c = search needs
 
 returns : tie.Need-returns
 returns c =
-    let start = c .before .before .before .before .before .before .before .before .before .before .before .before .before .before .before .before .before .before .before .pre in
-    named-served _ _ _ (start .0) _ _ (c .before .before .before .before .before .before .before .before .before .judge .ensures) _ _ _ (c .before .before .before .before .before .before .before .enum-told .given .1) (c .before .before .before .before .serve .ensures)
+    let start = c .before .before .before .before .before .before .before .before .before .before .before .before .before .before .before .before .before .pre in
+    named-served _ _ _ (start .0) _ _ (search (needs, in-use)) _ _ _ (c .before .before .before .before .before .before .before .enum-told .given .1) (c .before .before .before .before .place-seen .ensures)
 
 same-length-3 : tie.Need-same-length-3
 same-length-3 c = search needs
@@ -49,9 +52,7 @@ same-length-4 : tie.Need-same-length-4
 same-length-4 c = search needs
 
 returns-2 : tie.Need-returns-2
-returns-2 c =
-    let start = c .before .before .before .before .before .before .before .before .before .before .before .before .before .before .pre in
-    named-refused _ _ _ (start .0) _ _ (c .before .before .before .before .judge .ensures) _ _ (search needs) (c .refuse .ensures)
+returns-2 c = search (needs, in-use, named-refused)
 
 pub open-named-spec : {M : Type 1} → statement M
 open-named-spec =
@@ -59,9 +60,9 @@ open-named-spec =
     (tie.spec
     place-limit-requires
     survey-entries-requires
-    judge-requires
+    used-verdict-requires
     enum-told
-    serve-requires
+    place-seen-requires
     enum-known-verdict
     refuse-requires
     same-length
