@@ -82,11 +82,12 @@ fn place_seen(
     let moves = planned.moves;
     replace_all(keys, rests, count, moves);
     roster::file(keys, rests, count, circuit, place.0 as usize);
+    let filed = heading.count + 1;
     OpenedIn {
         heading: Heading {
             ports,
             nodes: heading.nodes,
-            count: heading.count + 1,
+            count: filed,
         },
         answer: Opening::Taken {
             place,

@@ -19,8 +19,8 @@ cast-file c = search needs
 file-requires : tie.Need-file-requires
 file-requires c κs = search (needs, placed)
 
-add-t26 : tie.Need-add-t26
-add-t26 c = search (needs, placed)
+add-filed : tie.Need-add-filed
+add-filed c = search (needs, placed)
 
 same-length : tie.Need-same-length
 same-length c = search needs
@@ -40,7 +40,7 @@ place-seen-spec =
     replace-all-requires
     cast-file
     file-requires
-    add-t26
+    add-filed
     same-length
     same-length-2
     returns)
