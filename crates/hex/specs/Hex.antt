@@ -28,9 +28,13 @@ hexOf (x ∷ s) = pairOf x ++ hexOf s
 abbrev pub noDigit : ℕ
 noDigit = 16
 
+-- the value of a digit that is a letter
+abbrev pub letterValue : ℕ → ℕ
+letterValue x = pick (leb 97 x && leb x 102) (x - 87) noDigit
+
 -- the value of a digit; `noDigit` of any other byte
 unfoldable pub valueOf : ℕ → ℕ
-valueOf x = pick (leb 48 x && leb x 57) (x - 48) (pick (leb 97 x && leb x 102) (x - 87) noDigit)
+valueOf x = pick (leb 48 x && leb x 57) (x - 48) (letterValue x)
 
 -- above every byte
 abbrev pub noByte : ℕ

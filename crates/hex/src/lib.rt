@@ -4,7 +4,7 @@ ghost use mathlib.Core.Path.{_≡_};
 ghost use Prim.Native.Nat.{_*_, _≤_, _<_};
 ghost use lib.ListN.{length};
 ghost use Rattle.buffer.specs.Put.{Put, Room};
-ghost use Rattle.hex.specs.Hex.{digitOf, pairOf, hexOf, noDigit, valueOf, byteOf, Unhexed};
+ghost use Rattle.hex.specs.Hex.{digitOf, pairOf, hexOf, noDigit, letterValue, valueOf, byteOf, Unhexed};
 
 // What stands for the value of a byte that is no digit: above every digit's.
 const NO_DIGIT: u8 = 16;
@@ -52,15 +52,27 @@ pub fn put_hex(out: &mut [u8], at: usize, bytes: &[u8]) -> usize
     next
 }
 
-// The value of a digit, or that there is none.
+// The value of a digit that is a letter, or that there is none.
+fn letter_value(digit: u8) -> u8
+    ensures { λ r. ⌜ r ≡ letterValue digit ⌝ }
+{
+    let letter = std::num::wrapping_sub_u8(digit, b'a');
+    if letter < 6 {
+        return letter + 10;
+    }
+    NO_DIGIT
+}
+
+// The value of a digit, or that there is none: both are worked out and one is taken, with no branch to guess.
 fn value(digit: u8) -> u8
     ensures { λ r. ⌜ (r ≡ valueOf digit) × (r ≤ noDigit) ⌝ }
 {
-    match digit {
-        b'0'..=b'9' => digit - b'0',
-        b'a'..=b'f' => digit - b'a' + 10,
-        _ => NO_DIGIT,
+    let numeral = std::num::wrapping_sub_u8(digit, b'0');
+    let other = letter_value(digit);
+    if numeral < 10 {
+        return numeral;
     }
+    other
 }
 
 // The byte of two digits, or that there is none.
