@@ -1,5 +1,5 @@
 -- An entry's two numbers: there and back, and the order of keys, which is "by source node and then by number". Assumes nothing.
-use Prim.Native.Nat.{ℕ, _/_, _%_, _^_, _≤_, _<_}
+use Prim.Native.Nat.{ℕ, _/_, _%_, _^_, _<_}
 use mathlib.Core.Path.{_≡_}
 use mathlib.Core.Logic.{_⊎_, inl, inr, _↔_}
 use mathlib.Core.Bool.{true}
@@ -9,7 +9,7 @@ use borrow.Author.Tests.{ltb-true, lt-ltb}
 use Rattle.basis.proofs.Bools.{and-left, and-right, and-both}
 use Rattle.lightpath.specs.declared.Circuit.{Circuit}
 use Rattle.channels.specs.declared.Standing.{Standing}
-use Rattle.entries.specs.Entry.{keyOf, restOf, entryOf, placedAt, rowKey, inFields}
+use Rattle.entries.specs.Entry.{keyOf, restOf, entryOf, placedAt, inFields}
 
 -- a circuit is within its fields where each number is
 pub in-fields : (c : Circuit) → c .number < 2 ^ 32 → c .source < 2 ^ 8 → c .destination < 2 ^ 8 → c .remark < 2 ^ 16 → inFields c ≡ true
@@ -35,14 +35,10 @@ fields-within c h = record {
   remark = ltb-true (c .remark) (2 ^ 16) (search (and-left, and-right));
 }
 
--- a key has the number below and the source above
+-- a key has the number below
 pub key-number : (c : Circuit) → inFields c ≡ true → keyOf c % 2 ^ 32 ≡ c .number
 unfolding keyOf
 key-number c h = let w = fields-within c h in omega arith
-
-pub key-source : (c : Circuit) → inFields c ≡ true → keyOf c / 2 ^ 32 ≡ c .source
-unfolding keyOf
-key-source c h = let w = fields-within c h in omega arith
 
 -- keys rise by source node and then by number
 pub key-order : (a b : Circuit) → inFields a ≡ true → inFields b ≡ true
@@ -63,11 +59,6 @@ key-order a b h k = (λ l. go l (decLt (a .source) (b .source)), back)
     back : (a .source < b .source) ⊎ ((a .source ≡ b .source) × (a .number < b .number)) → keyOf a < keyOf b
     back (inl s) = omega (arith, u, v)
     back (inr s) = omega arith
-
--- the row of a node begins where the keys of its circuits do
-pub row-of : (c : Circuit) (node : ℕ) → inFields c ≡ true → (rowKey node ≤ keyOf c) ↔ (node ≤ c .source)
-unfolding rowKey keyOf
-row-of c node h = let w = fields-within c h in (λ l. omega arith, λ l. omega arith)
 
 -- an entry is within its fields
 pub entry-fields : (key rest : ℕ) → inFields (entryOf key rest .circuit) ≡ true

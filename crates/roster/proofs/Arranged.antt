@@ -27,7 +27,7 @@ use Rattle.entries.specs.Entry.{restOf, entryOf, inFields}
 use Rattle.entries.proofs.Words.{entry-back, entry-fields}
 use Rattle.entries.proofs.Padded.{take-padded}
 use Rattle.roster.specs.Roster.{Roster, keyIn, entries, arranged, entriesIn, placesOf, tableOf, sameList, sameEntries, stands}
-use Rattle.roster.specs.Held.{Typed, Holds}
+use Rattle.roster.specs.Held.{Typed, Holds, Gives}
 use Rattle.roster.specs.Listed.{Written, Lists}
 use Rattle.roster.proofs.Standings.{entered, entries-weigh, entries-circuits, entries-count, entries-ordered}
 use Rattle.roster.proofs.Back.{stood-back, stood-weighs}
@@ -192,13 +192,6 @@ unfolding stands
 arranged-stands t meets typed =
     subst (λ (u : RingTable). (meetsRules u && sameEntries (arranged u) (arranged t)) ≡ true) (sym (there-and-back t meets typed))
     (and-both _ _ meets (and-both _ _ (and-both _ _ (eq-eqb (arranged t .heading .count) (arranged t .heading .count) refl) (list-same (arranged t .keys))) (list-same (arranged t .rests))))
-
--- a table that gives a roster
-pub record Gives (r : Roster) : Type 0 where
-  pub table : RingTable
-  pub rules : meetsRules table ≡ true
-  pub typed : Typed (table .channels)
-  pub is : arranged table ≡ r
 
 -- "an arrangement that no old table gives is met by 22": a roster stands exactly where some table that meets the ring rules gives it
 pub stands-exactly : (r : Roster) → (stands r ≡ true) ↔ Gives r

@@ -86,9 +86,6 @@ module _ (t : RingTable) (h : Heading) (keys rests : List ℕ) (H : HoldsTable t
   pub held-again : HoldsTable (tableIn h keys rests) h keys rests
   held-again = rw held-table H
 
-  pub held-meets : meetsRules t ≡ true
-  held-meets = H .holds .rules
-
   -- and are as long as a roster
   pub held-long : (length keys ≡ mostCircuits) × (length rests ≡ mostCircuits)
   held-long = lists-room (entries (t .channels)) keys rests (h .count) (holds-lists (t .nodes) (t .ports) (t .channels) keys rests (h .count) (H .holds))

@@ -1,5 +1,6 @@
 -- What keys and rests hold, and the table that they are of. Assumes nothing. What `hold` and `table_in` promise, and what the calls on lent keys
--- and rests ask for. `Typed` is what the laws of there and back ask of a table, which every table in memory has.
+-- and rests ask for. `Typed` is what the laws of there and back ask of a table, which every table in memory has; `Gives` is what a roster that
+-- stands has (`stands-exactly`).
 use Prim.Native.Nat.{ℕ}
 use mathlib.Core.Path.{_≡_}
 use mathlib.Core.Bool.{true}
@@ -9,10 +10,11 @@ use Rattle.basis.specs.Count.{All}
 use Rattle.limits.specs.Limits.{mostCircuits}
 use Rattle.channels.specs.Channels.{Channels, circuits}
 use Rattle.rules.specs.Rules.{ringRules}
+use Rattle.ring.specs.Table.{meetsRules}
 use Rattle.ring.specs.declared.RingTable.{RingTable}
 use Rattle.entries.specs.Entry.{restOf, inFields}
 use Rattle.entries.specs.Lists.{padded}
-use Rattle.roster.specs.Roster.{Heading, keyIn, entries, placesOf}
+use Rattle.roster.specs.Roster.{Heading, Roster, keyIn, entries, arranged, placesOf}
 
 -- each circuit is within its fields
 abbrev pub Typed : Channels → Type 0
@@ -35,3 +37,10 @@ pub record HoldsTable (t : RingTable) (h : Heading) (keys rests : List ℕ) : Ty
   pub nodes : h .nodes ≡ t .nodes
   pub ports : h .ports ≡ t .ports
   pub holds : Holds (t .nodes) (t .ports) (t .channels) keys rests (h .count)
+
+-- some table that meets the ring rules gives a roster
+pub record Gives (r : Roster) : Type 0 where
+  pub table : RingTable
+  pub rules : meetsRules table ≡ true
+  pub typed : Typed (table .channels)
+  pub is : arranged table ≡ r

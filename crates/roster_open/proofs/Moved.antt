@@ -27,7 +27,7 @@ use Rattle.entries.proofs.Words.{key-number}
 use Rattle.roster.specs.Roster.{keyIn, filed, entries}
 use Rattle.roster.specs.Held.{Typed}
 use Rattle.roster.specs.Listed.{Ordered, Written}
-use Rattle.roster.proofs.Filing.{filed-weighs, filed-ordered, one-order}
+use Rattle.roster.proofs.Filing.{filed-weighs, weigh-map, filed-ordered, one-order}
 use Rattle.roster.proofs.Standings.{entered, entries-weigh, entries-ordered}
 use Rattle.roster.proofs.Arranged.{entries-written}
 use Rattle.roster_open.specs.InPlace.{replaced, replacedAll, Single}
@@ -72,10 +72,6 @@ are-entries N ks t rules typed es o h =
 abbrev replacedBy : List Move → Standing → Standing
 replacedBy [] e = e
 replacedBy (m ∷ ms) e = replacedBy ms (replaced m e)
-
-weigh-map : {A B : Type 0} (v : B → ℕ) (f : A → B) (xs : List A) → weigh v (map f xs) ≡ weigh (λ x. v (f x)) xs
-weigh-map v f [] = refl
-weigh-map v f (x ∷ xs) = omega (arith, weigh-map v f xs)
 
 replaced-weighs : (v : Standing → ℕ) (ms : List Move) (es : List Standing) → weigh v (replacedAll ms es) ≡ weigh (λ e. v (replacedBy ms e)) es
 replaced-weighs v [] es = refl

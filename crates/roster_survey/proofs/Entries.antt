@@ -2,7 +2,7 @@
 use Prim.Native.Nat.{ℕ, zero, suc, _+_, _<_}
 use mathlib.Core.Path.{_≡_, refl, sym, ap, _∙_}
 use mathlib.Core.Bool.{Bool, true, false}
-use mathlib.Core.List.{List, [], _∷_, map}
+use mathlib.Core.List.{List, [], _∷_}
 use native.Mathlib.Omega.{arith}
 use lib.Dec.{eqb, ltb}
 use lib.ListN.{length, getD, take, List·getD-map}
@@ -28,17 +28,13 @@ use Rattle.entries.proofs.Words.{key-number, rest-place, rest-destination, entr
 use Rattle.roster.specs.Roster.{keyIn, entries}
 use Rattle.roster.specs.Held.{Holds}
 use Rattle.roster.specs.Listed.{Written, Lists}
+use Rattle.roster.proofs.Filing.{weigh-map}
 use Rattle.roster.proofs.Standings.{entries-circuits, ofPlace, entries-at}
 use Rattle.roster.proofs.Arranged.{held-keys, held-rests, holds-lists}
 use Rattle.rows.proofs.Held.{held-room}
 use Rattle.roster_survey.specs.Pass.{numberIn, placeIn, destinationIn, standAt, litIn, Entered, placeAt}
 
 -- ---- lists
-
--- a weight of what a function gives
-weigh-map : {A B : Type 0} (w : B → ℕ) (f : A → B) (xs : List A) → weigh w (map f xs) ≡ weigh (λ x. w (f x)) xs
-weigh-map w f [] = refl
-weigh-map w f (x ∷ xs) = omega (arith, weigh-map w f xs)
 
 abbrev blankEntry : Standing
 blankEntry = record { place = 0; circuit = blankCircuit }
