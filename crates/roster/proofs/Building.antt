@@ -9,6 +9,7 @@ use lib.Dec.{eqb}
 use lib.ListN.{length, getD, drop, replicate, drop-of-length-le}
 use lib.Seq.{drop-cons}
 use borrow.Author.Tests.{not-true, not-false, eq-eqb, ne-eqb}
+use Rattle.basis.specs.Count.{distinct}
 use Rattle.basis.proofs.Arrays.{lent-within}
 use Rattle.limits.specs.Limits.{mostCircuits}
 use Rattle.channels.specs.Channels.{Channels, circuits}
@@ -34,6 +35,9 @@ module _ (t : RingTable) (meets : meetsRules t ≡ true) where
   pub room-for-all : length (circuits (t .channels)) ≤ mostCircuits
   room-for-all = circuits-most (t .nodes) (t .ports) (t .channels) (table-rules t meets)
 
+  pub numbers-apart : distinct (λ c. c .number) (circuits (t .channels)) ≡ true
+  numbers-apart = table-rules t meets .numbers
+
   module _ (keys rests : List ℕ) (count : ℕ) (h : Lists (entries (t .channels)) keys rests count) where
     pub count-byte : count < 256
     count-byte = omega (arith, h .counted, h .most)
@@ -53,7 +57,7 @@ module _ (t : RingTable) (meets : meetsRules t ≡ true) where
     made-back = rw made-arranged (arranged-stands t meets typed, there-and-back t meets typed)
 
 -- for `search (needs, making)`
-pub ruleset making = (blank-lists, room-for-all, count-byte)
+pub ruleset making = (blank-lists, room-for-all, numbers-apart, count-byte)
 
 module _ (t : RingTable) (m : Bool) (is : m ≡ meetsRules t) where
   -- a table that breaks a rule

@@ -15,7 +15,7 @@ use Rattle.roster.specs.Roster.{Heading, entries, placesOf}
 use Rattle.roster.specs.Held.{tableIn, HoldsTable}
 use Rattle.roster.specs.Listed.{Lists}
 use Rattle.roster.proofs.Arranged.{lists-holds, held-places, holds-lists}
-use Rattle.roster.proofs.Building.{blank-lists, room-for-all}
+use Rattle.roster.proofs.Building.{blank-lists, room-for-all, numbers-apart}
 use Rattle.roster.proofs.Listing.{lists-room}
 
 -- the first i numbers of a list are 0
@@ -67,7 +67,7 @@ module _ (t : RingTable) (meets : meetsRules t ≡ true) (keys rests : List ℕ)
   hold-rests r₀ e = lists-room (entries (t .channels)) keys rests count h .1 ∙ sym e
 
 -- for `search (needs, holding)`
-pub ruleset holding = (room-for-all, cleared-lists, hold-byte, hold-table, hold-keys, hold-rests)
+pub ruleset holding = (room-for-all, numbers-apart, cleared-lists, hold-byte, hold-table, hold-keys, hold-rests)
 
 pub read-table : (h : Heading) (keys rests : List ℕ) (chs : Channels) → chs ≡ placesOf keys rests (h .count)
     → record { channels = chs; ports = h .ports; nodes = h .nodes } ≡ tableIn h keys rests

@@ -1,10 +1,9 @@
 -- The entries of a table after an opening and after a closing: those of before, with the moved ones at their new places and the new one filed,
 -- or with one taken out. Assumes nothing.
-use Prim.Native.Nat.{ℕ, zero, suc, _+_, _%_, _^_, _≤_, _<_}
+use Prim.Native.Nat.{ℕ, zero, suc, _+_, _≤_, _<_}
 use mathlib.Core.Path.{_≡_, refl, sym, ap, _∙_}
 use mathlib.Core.Bool.{Bool, true, false, not}
 use mathlib.Core.List.{List, [], _∷_, _++_, map}
-use native.Mathlib.Decide.{ℕ-discrete}
 use native.Mathlib.Omega.{arith}
 use lib.Dec.{eqb, ltb}
 use lib.ListN.{length, take, drop}
@@ -12,7 +11,7 @@ use borrow.Author.Tests.{eqb-true, eq-eqb, lt-ltb, le-ltb, ltb-true}
 use Rattle.basis.specs.Choice.{pick, bit}
 use Rattle.basis.specs.Count.{weigh, tally, All}
 use Rattle.basis.specs.Search.{firstPlace}
-use Rattle.basis.proofs.Bools.{bit-eq, bit-ne, all-map, all-and}
+use Rattle.basis.proofs.Bools.{bit-eq, all-map, all-and}
 use Rattle.basis.proofs.Weigh.{weigh-same, weigh-zero, counted, by-key, distinct-most}
 use Rattle.limits.specs.Limits.{placeCount}
 use Rattle.lightpath.specs.declared.Circuit.{Circuit}
@@ -23,11 +22,10 @@ use Rattle.moves.specs.declared.Move.{Move}
 use Rattle.rules.proofs.Rules.{Rules, rules-hold, limits-hold}
 use Rattle.steps.specs.Kept.{Kept, PlanKeeps}
 use Rattle.steps.specs.Moved.{moved, movedTo, Names}
-use Rattle.entries.proofs.Words.{key-number}
 use Rattle.roster.specs.Roster.{keyIn, filed, entries}
 use Rattle.roster.specs.Held.{Typed}
 use Rattle.roster.specs.Listed.{Ordered, Written}
-use Rattle.roster.proofs.Filing.{filed-weighs, weigh-map, filed-ordered, one-order}
+use Rattle.roster.proofs.Filing.{filed-weighs, weigh-map, filed-ordered, single-apart, one-order}
 use Rattle.roster.proofs.Standings.{entered, entries-weigh, entries-ordered}
 use Rattle.roster.proofs.Arranged.{entries-written}
 use Rattle.roster_open.specs.InPlace.{replaced, replacedAll, Single}
@@ -43,20 +41,6 @@ module _ (N : ℕ) (ks : List ℕ) (t : Channels) (rules : Rules N ks t) where
   pub entries-single : Single (entries t)
   entries-single n =
       omega (arith, entries-weigh t (rules .numbers) (limits-hold N ks t rules .long) (λ e. bit (eqb (numberIn e) n)), distinct-most (λ c. c .number) (circuits t) (rules .numbers) n)
-
--- and so does each key, where circuits are within their fields
-pub single-apart : (es : List Standing) → All Written es → Single es → (k : ℕ) → tally keyIn k es ≤ 1
-single-apart es w h k = omega (arith, fewer es w, h (k % 2 ^ 32))
-  where
-    fewer : (es : List Standing) → All Written es → tally keyIn k es ≤ tally numberIn (k % 2 ^ 32) es
-    fewer [] w = omega arith
-    fewer (e ∷ es) w = omega (arith, fewer es (w .1), one (ℕ-discrete (keyIn e) k))
-      where
-        one : Dec (keyIn e ≡ k) → bit (eqb (keyIn e) k) ≤ bit (eqb (numberIn e) (k % 2 ^ 32))
-        one (yes is) =
-            let n : numberIn e ≡ k % 2 ^ 32 = sym (key-number (e .circuit) (w .0 .0)) ∙ ap (λ z. z % 2 ^ 32) is in
-            omega (arith, bit-eq (keyIn e) k is, bit-eq (numberIn e) (k % 2 ^ 32) n)
-        one (no d) = omega (arith, bit-ne (keyIn e) k d)
 
 -- entries in order that weigh what a table's circuits with their places do are its entries
 pub are-entries : (N : ℕ) (ks : List ℕ) (t : Channels) → Rules N ks t → Typed t → (es : List Standing) → Ordered es
