@@ -1,5 +1,6 @@
 -- The form or the path of a command begins within its line. Assumes nothing.
 use Prim.Native.Nat.{ℕ, _≤_, _^_}
+use Prim.Native.String.{String}
 use mathlib.Core.Path.{_≡_, refl}
 use mathlib.Core.Bool.{Bool, true, false}
 use mathlib.Core.List.{List, [], _∷_}
@@ -9,6 +10,7 @@ use lib.IntN.{ℤ}
 use lib.ListN.{length, getD}
 use borrow.Author.Tests.{eqb-false}
 use Rattle.basis.specs.Choice.{pick}
+use Rattle.basis.specs.Count.{All}
 use Rattle.text.specs.declared.Number.{Number}
 use Rattle.text.specs.declared.Number.the-variants.{Got, Missing}
 use Rattle.text.specs.declared.Signed.{Signed}
@@ -17,9 +19,10 @@ use Rattle.text.specs.Bytes.{bytes}
 use Rattle.text.specs.Number.{number}
 use Rattle.text.specs.Signed.{signed}
 use Rattle.words.specs.Split.{words, sameText}
+use Rattle.words.specs.Parse.{byWord, given, field, givenSigned, signedField, atEnd}
 use Rattle.commands.specs.declared.Command.{Command}
-use Rattle.commands.specs.declared.Command.the-variants.{Read, ReadFile, Write, WriteFile, Load, Link, Circuits, Show, Frequency, Wavelength, Tidy, From, Desk}
-use Rattle.commands.specs.Command.{longestCommand, lastAt, byFirst, readCommand, writeCommand, given, field, givenSigned, signedField, atEnd, linkCommand, gridCommand, fromCommand, commandWords, commandOf}
+use Rattle.commands.specs.declared.Command.the-variants.{Read, ReadFile, Write, WriteFile, Load, Link, Circuits, Show, Frequency, Wavelength, Tidy, From, To, Nodes, Desk}
+use Rattle.commands.specs.Command.{longestCommand, lastAt, byFirst, readCommand, writeCommand, linkCommand, gridCommand, nodeCommand, kinds, commandWords, commandOf}
 use Rattle.commands.proofs.Last.{last-within}
 
 -- where it begins is at most n
@@ -36,6 +39,8 @@ Begins n (Frequency spacing start wavelength) = Unit {0}
 Begins n (Wavelength spacing start frequency) = Unit {0}
 Begins n Tidy = Unit {0}
 Begins n (From node) = Unit {0}
+Begins n (To node) = Unit {0}
+Begins n Nodes = Unit {0}
 Begins n Desk = Unit {0}
 
 -- each part of the definition keeps that
@@ -44,26 +49,26 @@ module _ (n : ℕ) where
   begins-pick true a b p q = p
   begins-pick false a b p q = q
 
-  begins-end : (ws : List (List ℕ)) (a : Command) → Begins n a → Begins n (atEnd ws a)
+  begins-end : (ws : List (List ℕ)) (a : Command) → Begins n a → Begins n (atEnd Desk ws a)
   begins-end [] a p = p
   begins-end (w ∷ ws) a p = tt
 
-  begins-given : (m : Number) (f : ℕ → Command) → ((k : ℕ) → Begins n (f k)) → Begins n (given m f)
+  begins-given : (m : Number) (f : ℕ → Command) → ((k : ℕ) → Begins n (f k)) → Begins n (given Desk m f)
   begins-given (Got k) f h = h k
   begins-given Missing f h = tt
 
   begins-field : (bits : ℕ) (ws : List (List ℕ)) (f : ℕ → List (List ℕ) → Command) → ((k : ℕ) (vs : List (List ℕ)) → Begins n (f k vs))
-      → Begins n (field bits ws f)
+      → Begins n (field Desk bits ws f)
   unfolding field
   begins-field bits [] f h = tt
   begins-field bits (w ∷ ws) f h = begins-given (number (2 ^ bits) w) _ (λ k. h k ws)
 
-  begins-given-signed : (m : Signed) (f : ℤ → Command) → ((z : ℤ) → Begins n (f z)) → Begins n (givenSigned m f)
+  begins-given-signed : (m : Signed) (f : ℤ → Command) → ((z : ℤ) → Begins n (f z)) → Begins n (givenSigned Desk m f)
   begins-given-signed (gotSigned z) f h = h z
   begins-given-signed noSigned f h = tt
 
   begins-signed : (ws : List (List ℕ)) (f : ℤ → List (List ℕ) → Command) → ((z : ℤ) (vs : List (List ℕ)) → Begins n (f z vs))
-      → Begins n (signedField ws f)
+      → Begins n (signedField Desk ws f)
   unfolding signedField
   begins-signed [] f h = tt
   begins-signed (w ∷ ws) f h = begins-given-signed (signed w) _ (λ z. h z ws)
@@ -75,6 +80,10 @@ module _ (n : ℕ) where
       go : (t : Bool) → eqb s 0 ≡ t → Begins n (byFirst l s file other)
       go true e = rw e tt
       go false e = let m : s ≡ 0 → ⊥ = eqb-false s 0 e in rw e (begins-pick (eqb (getD l s 0) 64) file other (p m) (q m))
+
+  begins-word : (w : List ℕ) (ks : List (String × Command)) → All (λ k. Begins n (k .1)) ks → Begins n (byWord Desk w ks)
+  begins-word w [] h = tt
+  begins-word w (k ∷ ks) h = begins-pick (sameText w (bytes (k .0))) (k .1) _ (h .0) (begins-word w ks (h .1))
 
 module _ (l : List ℕ) where
   begins-read : (ws : List (List ℕ)) → Begins (length l) (readCommand l ws)
@@ -96,24 +105,54 @@ module _ (l : List ℕ) where
   begins-grid asked h ws =
       begins-field (length l) 32 ws _ (λ a us. begins-signed (length l) us _ (λ b vs. begins-field (length l) 32 vs _ (λ c rs. begins-end (length l) rs _ (h _ _ _))))
 
-  begins-from : (ws : List (List ℕ)) → Begins (length l) (fromCommand ws)
-  unfolding fromCommand
-  begins-from ws = begins-field (length l) 8 ws _ (λ a us. begins-end (length l) us _ tt)
+  begins-node : (asked : ℕ → Command) → ((k : ℕ) → Begins (length l) (asked k)) → (ws : List (List ℕ)) → Begins (length l) (nodeCommand asked ws)
+  unfolding nodeCommand
+  begins-node asked h ws = begins-field (length l) 8 ws _ (λ a us. begins-end (length l) us _ (h a))
+
+  begins-kinds : (ws : List (List ℕ)) → All (λ k. Begins (length l) (k .1)) (kinds l ws)
+  begins-kinds ws =
+      let end : (a : Command) → Begins (length l) a → Begins (length l) (atEnd Desk ws a) = begins-end (length l) ws in (
+        begins-read ws,
+        (
+          begins-write ws,
+          (
+            end Load tt,
+            (
+              begins-link ws,
+              (
+                end Circuits tt,
+                (
+                  end Show tt,
+                  (
+                    begins-grid Frequency (λ s z k. tt) ws,
+                    (
+                      begins-grid Wavelength (λ s z k. tt) ws,
+                      (
+                        end Tidy tt,
+                        (
+                          begins-node From (λ k. tt) ws,
+                          (
+                            begins-node To (λ k. tt) ws,
+                            (
+                              end Nodes tt,
+                              tt,
+                            ),
+                          ),
+                        ),
+                      ),
+                    ),
+                  ),
+                ),
+              ),
+            ),
+          ),
+        ),
+      )
 
   begins-words : (ws : List (List ℕ)) → Begins (length l) (commandWords l ws)
   unfolding commandWords
   begins-words [] = tt
-  begins-words (w ∷ ws) =
-      begins-pick (length l) (sameText w (bytes "read")) _ _ (begins-read ws)
-      (begins-pick (length l) (sameText w (bytes "write")) _ _ (begins-write ws)
-      (begins-pick (length l) (sameText w (bytes "load")) _ _ (begins-end (length l) ws _ tt)
-      (begins-pick (length l) (sameText w (bytes "link")) _ _ (begins-link ws)
-      (begins-pick (length l) (sameText w (bytes "circuits")) _ _ (begins-end (length l) ws _ tt)
-      (begins-pick (length l) (sameText w (bytes "show")) _ _ (begins-end (length l) ws _ tt)
-      (begins-pick (length l) (sameText w (bytes "tidy")) _ _ (begins-end (length l) ws _ tt)
-      (begins-pick (length l) (sameText w (bytes "from")) _ _ (begins-from ws)
-      (begins-pick (length l) (sameText w (bytes "frequency")) _ _ (begins-grid Frequency (λ s z k. tt) ws)
-      (begins-pick (length l) (sameText w (bytes "wavelength")) _ _ (begins-grid Wavelength (λ s z k. tt) ws) tt)))))))))
+  begins-words (w ∷ ws) = begins-word (length l) w (kinds l ws) (begins-kinds ws)
 
   begins : Begins (length l) (commandOf l)
   unfolding commandOf

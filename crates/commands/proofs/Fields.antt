@@ -1,8 +1,8 @@
 -- What a line's next words lead to. Assumes nothing.
-use Prim.Native.Nat.{ℕ, _+_, _^_, _≤_, _<_}
-use mathlib.Core.Path.{_≡_, refl, sym, _∙_}
+use Prim.Native.Nat.{ℕ, _+_, _≤_, _<_}
+use mathlib.Core.Path.{_≡_, _∙_}
 use mathlib.Core.Bool.{Bool, true, false}
-use mathlib.Core.List.{List, [], _∷_}
+use mathlib.Core.List.{List}
 use native.Mathlib.Numerals.{add-one}
 use lib.IntN.{ℤ}
 use lib.ListN.{length, drop, getD, drop-of-length-le, List·getD-eq-default}
@@ -10,55 +10,12 @@ use mir.Syntax.{w32}
 use mir.Val.{SFits, toZ, ofZ}
 use mir.ValLaws.{toZ-ofZ}
 use borrow.Author.Tests.{eq-eqb, ne-eqb}
-use Rattle.words.specs.declared.Field.{Field}
-use Rattle.words.specs.declared.Field.the-variants.{Read, Unread}
-use Rattle.words.specs.declared.SignedField.{SignedField}
-use Rattle.words.specs.declared.SignedField.the-variants.{Read as readSigned, Unread as unreadSigned}
 use Rattle.words.specs.Split.{otherWords}
-use Rattle.words.specs.Field.{Next, FieldAt}
-use Rattle.words.specs.SignedField.{NextSigned, SignedFieldAt}
+use Rattle.words.specs.Parse.{atEnd}
 use Rattle.words.proofs.Split.{words-next}
-use Rattle.words.proofs.Fields.{read-next, read-small}
 use Rattle.commands.specs.declared.Command.{Command}
-use Rattle.commands.specs.declared.Command.the-variants.{Read as readForm, ReadFile, Write, WriteFile, Frequency, Wavelength, Desk}
-use Rattle.commands.specs.Command.{lastAt, byFirst, readCommand, writeCommand, field, signedField, atEnd, wayAsked}
-
--- what a field leads to, from the answer of its reading and from what the words after it lead to
-module _ (bits : ℕ) (b : List ℕ) (at : ℕ) (r : Field) (h : FieldAt (2 ^ bits) b at r) (f : ℕ → List (List ℕ) → Command) (x : Command) where
-  pub field-read : (n next : ℕ) → r ≡ Read n next → x ≡ f n (otherWords (drop next b)) → x ≡ field bits (otherWords (drop at b)) f
-  unfolding field
-  field-read n next k e = let q : Next (2 ^ bits) b at n next = read-next (2 ^ bits) b at r h n next k in e ∙ sym (rw (q .is, q .value))
-
-  pub field-unread : r ≡ Unread → x ≡ Desk → x ≡ field bits (otherWords (drop at b)) f
-  unfolding field
-  field-unread k e = e ∙ sym (go (otherWords (drop at b)) refl)
-    where
-      go : (l : List (List ℕ)) → otherWords (drop at b) ≡ l → field bits l f ≡ Desk
-      go [] i = refl
-      go (w ∷ ws) i = rw ((rw k at h) w ws i)
-
--- and what a signed one does, which the machine keeps as bits
-module _ (b : List ℕ) (at : ℕ) (r : SignedField) (h : SignedFieldAt b at r) (f : ℤ → List (List ℕ) → Command) (x : Command) where
-  pub signed-read : (z : ℤ) (next : ℕ) → r ≡ readSigned z next → SFits w32 z → x ≡ f (toZ w32 (ofZ w32 z)) (otherWords (drop next b))
-      → x ≡ signedField (otherWords (drop at b)) f
-  unfolding signedField
-  signed-read z next k s e = let q : NextSigned b at z next = rw k at h in e ∙ rw (toZ-ofZ w32 z s) (sym (rw (q .is, q .value)))
-
-  pub signed-unread : r ≡ unreadSigned → x ≡ Desk → x ≡ signedField (otherWords (drop at b)) f
-  unfolding signedField
-  signed-unread k e = e ∙ sym (go (otherWords (drop at b)) refl)
-    where
-      go : (l : List (List ℕ)) → otherWords (drop at b) ≡ l → signedField l f ≡ Desk
-      go [] i = refl
-      go (w ∷ ws) i = rw ((rw k at h) w ws i)
-
--- the line's end after the last word
-module _ (b : List ℕ) (at : ℕ) (command x : Command) where
-  pub at-end : length b ≤ at → x ≡ command → x ≡ atEnd (otherWords (drop at b)) command
-  at-end h e = e ∙ sym (rw (drop-of-length-le b h))
-
-  pub not-end : at < length b → x ≡ Desk → x ≡ atEnd (otherWords (drop at b)) command
-  not-end h e = e ∙ sym (rw (words-next b at h))
+use Rattle.commands.specs.declared.Command.the-variants.{Read as readForm, ReadFile, Write, WriteFile, Frequency, Wavelength, From, To, Desk}
+use Rattle.commands.specs.Command.{lastAt, byFirst, readCommand, writeCommand, wayAsked, endAsked}
 
 -- which way is asked of the grid, with a start that the machine keeps as bits
 module _ (back : Bool) (s : ℕ) (z : ℤ) (fits : SFits w32 z) (k : ℕ) where
@@ -68,11 +25,17 @@ module _ (back : Bool) (s : ℕ) (z : ℤ) (fits : SFits w32 z) (k : ℕ) where
   pub asks-there : back ≡ false → Frequency s (toZ w32 (ofZ w32 z)) k ≡ wayAsked back s z k
   asks-there h = rw (h, toZ-ofZ w32 z fits)
 
--- the command at the line's end, by the call that gave it
-pub end-given : (ws : List (List ℕ)) (command given x : Command) → command ≡ given → x ≡ atEnd ws command → x ≡ atEnd ws given
-end-given ws command given x e k = rw (← e) k
+-- which end is asked of a node
+module _ (to : Bool) (node : ℕ) where
+  pub asks-to : to ≡ true → To node ≡ endAsked to node
+  asks-to h = rw h
 
-pub ruleset fields = (read-small, field-read, field-unread, signed-read, signed-unread, at-end, not-end)
+  pub asks-from : to ≡ false → From node ≡ endAsked to node
+  asks-from h = rw h
+
+-- the command at the line's end, by the call that gave it
+pub end-given : (ws : List (List ℕ)) (command given x : Command) → command ≡ given → x ≡ atEnd Desk ws command → x ≡ atEnd Desk ws given
+end-given ws command given x e k = rw (← e) k
 
 -- the word at a position by its first byte
 module _ (b : List ℕ) (start : ℕ) (file other : Command) where

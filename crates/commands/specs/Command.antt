@@ -1,22 +1,17 @@
 -- What a line asks for beyond the script's three kinds; any other is for the order desk, which runs it or refuses it. Assumes nothing.
 -- What `parse_command` promises.
-use Prim.Native.Nat.{ℕ, suc, _-_, _*_, _^_}
+use Prim.Native.Nat.{ℕ, suc, _-_, _*_}
+use Prim.Native.String.{String}
 use mathlib.Core.Bool.{Bool, true, false}
 use mathlib.Core.List.{List, [], _∷_}
 use lib.Dec.{eqb, leb}
 use lib.IntN.{ℤ}
 use lib.ListN.{length, getD}
 use Rattle.basis.specs.Choice.{pick}
-use Rattle.text.specs.declared.Number.{Number}
-use Rattle.text.specs.declared.Number.the-variants.{Got, Missing}
-use Rattle.text.specs.declared.Signed.{Signed}
-use Rattle.text.specs.declared.Signed.the-variants.{Got as gotSigned, Missing as noSigned}
-use Rattle.text.specs.Bytes.{bytes}
-use Rattle.text.specs.Number.{number}
-use Rattle.text.specs.Signed.{signed}
-use Rattle.words.specs.Split.{words, sameText}
+use Rattle.words.specs.Split.{words}
+use Rattle.words.specs.Parse.{byWord, field, signedField, atEnd}
 use Rattle.commands.specs.declared.Command.{Command}
-use Rattle.commands.specs.declared.Command.the-variants.{Read, ReadFile, Write, WriteFile, Load, Link, Circuits, Show, Frequency, Wavelength, Tidy, From, Desk}
+use Rattle.commands.specs.declared.Command.the-variants.{Read, ReadFile, Write, WriteFile, Load, Link, Circuits, Show, Frequency, Wavelength, Tidy, From, To, Nodes, Desk}
 
 -- of a form at most 4,096 bytes are read, from the digits of a word or from a file
 abbrev pub mostRead : ℕ
@@ -46,83 +41,58 @@ unfoldable pub writeCommand : List ℕ → List (List ℕ) → Command
 writeCommand l [] = Write
 writeCommand l (w ∷ ws) = byFirst l (lastAt l (w ∷ ws)) (WriteFile (suc (lastAt l (w ∷ ws)))) Desk
 
--- no word is left
-abbrev pub atEnd : List (List ℕ) → Command → Command
-atEnd [] command = command
-atEnd (w ∷ ws) command = Desk
-
--- what follows from the number that a word is
-abbrev pub given : Number → (ℕ → Command) → Command
-given (Got n) f = f n
-given Missing f = Desk
-
--- what follows from the first word, as a number of so many bits, and the words after it
-unfoldable pub field : ℕ → List (List ℕ) → (ℕ → List (List ℕ) → Command) → Command
-field bits [] f = Desk
-field bits (w ∷ ws) f = given (number (2 ^ bits) w) (λ n. f n ws)
-
--- what follows from the signed number that a word is
-abbrev pub givenSigned : Signed → (ℤ → Command) → Command
-givenSigned (gotSigned z) f = f z
-givenSigned noSigned f = Desk
-
--- what follows from the first word, as a signed number of 32 bits, and the words after it
-unfoldable pub signedField : List (List ℕ) → (ℤ → List (List ℕ) → Command) → Command
-signedField [] f = Desk
-signedField (w ∷ ws) f = givenSigned (signed w) (λ z. f z ws)
-
 -- `link LINK WAVELENGTH DIRECTION`: "the three numbers may have 64 bits"
 unfoldable pub linkCommand : List (List ℕ) → Command
 linkCommand ws =
-    field 64 ws (λ link ws.
-    field 64 ws (λ wavelength ws.
-    field 64 ws (λ direction ws.
-    atEnd ws (Link link wavelength direction))))
+    field Desk 64 ws (λ link ws.
+    field Desk 64 ws (λ wavelength ws.
+    field Desk 64 ws (λ direction ws.
+    atEnd Desk ws (Link link wavelength direction))))
 
 -- `frequency SPACING START WAVELENGTH` or `wavelength SPACING START FREQUENCY` (02, E3): the first and the last number have 32 bits, and
 -- START is signed with 32
 unfoldable pub gridCommand : (ℕ → ℤ → ℕ → Command) → List (List ℕ) → Command
 gridCommand asked ws =
-    field 32 ws (λ spacing ws.
-    signedField ws (λ start ws.
-    field 32 ws (λ last ws.
-    atEnd ws (asked spacing start last))))
-
--- which of the two a line on the frequency grid is, by its first word
-abbrev pub gridWords : List ℕ → List (List ℕ) → Command
-gridWords w ws =
-    pick (sameText w (bytes "frequency")) (gridCommand Frequency ws)
-    (pick (sameText w (bytes "wavelength")) (gridCommand Wavelength ws)
-    Desk)
+    field Desk 32 ws (λ spacing ws.
+    signedField Desk ws (λ start ws.
+    field Desk 32 ws (λ last ws.
+    atEnd Desk ws (asked spacing start last))))
 
 -- the way back, or there
 abbrev pub wayAsked : Bool → ℕ → ℤ → ℕ → Command
 wayAsked true = Wavelength
 wayAsked false = Frequency
 
--- `from NODE` (02, E7): "NODE has 8 bits"
-unfoldable pub fromCommand : List (List ℕ) → Command
-fromCommand ws = field 8 ws (λ node ws. atEnd ws (From node))
+-- `from NODE` (02, E7) or `to NODE`: "NODE has 8 bits"
+unfoldable pub nodeCommand : (ℕ → Command) → List (List ℕ) → Command
+nodeCommand asked ws = field Desk 8 ws (λ node ws. atEnd Desk ws (asked node))
 
--- `from`, or a line on the frequency grid, by its first word
-abbrev pub lookupWords : List ℕ → List (List ℕ) → Command
-lookupWords w ws = pick (sameText w (bytes "from")) (fromCommand ws) (gridWords w ws)
+-- the circuits to the node, or from it
+abbrev pub endAsked : Bool → ℕ → Command
+endAsked true = To
+endAsked false = From
 
--- `tidy` (02, E5), or a line that changes nothing, by its first word
-abbrev pub changeWords : List ℕ → List (List ℕ) → Command
-changeWords w ws = pick (sameText w (bytes "tidy")) (atEnd ws Tidy) (lookupWords w ws)
+-- the lines by their first word, and what the other words lead to
+abbrev pub kinds : List ℕ → List (List ℕ) → List (String × Command)
+kinds l ws =
+    ("read", readCommand l ws)
+    ∷ ("write", writeCommand l ws)
+    ∷ ("load", atEnd Desk ws Load)
+    ∷ ("link", linkCommand ws)
+    ∷ ("circuits", atEnd Desk ws Circuits)
+    ∷ ("show", atEnd Desk ws Show)
+    ∷ ("frequency", gridCommand Frequency ws)
+    ∷ ("wavelength", gridCommand Wavelength ws)
+    ∷ ("tidy", atEnd Desk ws Tidy)
+    ∷ ("from", nodeCommand From ws)
+    ∷ ("to", nodeCommand To ws)
+    ∷ ("nodes", atEnd Desk ws Nodes)
+    ∷ []
 
 -- a line by its words: the first says which it is
 unfoldable pub commandWords : List ℕ → List (List ℕ) → Command
 commandWords l [] = Desk
-commandWords l (w ∷ ws) =
-    pick (sameText w (bytes "read")) (readCommand l ws)
-    (pick (sameText w (bytes "write")) (writeCommand l ws)
-    (pick (sameText w (bytes "load")) (atEnd ws Load)
-    (pick (sameText w (bytes "link")) (linkCommand ws)
-    (pick (sameText w (bytes "circuits")) (atEnd ws Circuits)
-    (pick (sameText w (bytes "show")) (atEnd ws Show)
-    (changeWords w ws))))))
+commandWords l (w ∷ ws) = byWord Desk w (kinds l ws)
 
 unfoldable pub commandOf : List ℕ → Command
 commandOf l = pick (leb (length l) longestCommand) (commandWords l (words l)) Desk

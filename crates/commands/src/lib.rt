@@ -4,7 +4,8 @@ ghost use mathlib.Core.Path.{_≡_};
 ghost use Prim.Native.Nat.{_≤_};
 ghost use lib.ListN.{length, drop};
 ghost use Rattle.words.specs.Split.{otherWords};
-ghost use Rattle.commands.specs.Command.{lastAt, byFirst, readCommand, writeCommand, atEnd, linkCommand, gridCommand, gridWords, wayAsked, fromCommand, lookupWords, changeWords, commandOf};
+ghost use Rattle.words.specs.Parse.{atEnd};
+ghost use Rattle.commands.specs.Command.{lastAt, byFirst, readCommand, writeCommand, linkCommand, gridCommand, wayAsked, nodeCommand, endAsked, commandOf};
 use words::Field;
 use words::MOST_U8;
 use words::MOST_U32;
@@ -44,12 +45,16 @@ pub enum Command {
     From {
         node: u8,
     },
+    To {
+        node: u8,
+    },
+    Nodes,
     Desk,
 }
 
 // The command, where the word that ends at the position is the last.
 fn at_end(line: &[u8], at: usize, command: Command) -> Command
-    ensures { λ r. ⌜ r ≡ atEnd (otherWords (drop at (now (line .entry)))) command ⌝ }
+    ensures { λ r. ⌜ r ≡ atEnd Command.Desk (otherWords (drop at (now (line .entry)))) command ⌝ }
 {
     if at < line.len() {
         return Command::Desk;
@@ -174,50 +179,28 @@ fn parse_grid(line: &[u8], at: usize, back: bool) -> Command
     at_end(line, end, command)
 }
 
-// A line on the frequency grid, by its first word, which ends at the position.
-fn parse_grid_line(first: &[u8], line: &[u8], end: usize) -> Command
-    ensures { λ r. ⌜ r ≡ gridWords (now (first .entry)) (otherWords (drop end (now (line .entry)))) ⌝ }
+// What is asked of a node: the circuits to it, or from it.
+fn node_command(to: bool, node: u8) -> Command
+    ensures { λ r. ⌜ r ≡ endAsked to node ⌝ }
 {
-    if words::same_text(first, b"frequency") {
-        return parse_grid(line, end, false);
+    if to {
+        return Command::To { node };
     }
-    if words::same_text(first, b"wavelength") {
-        return parse_grid(line, end, true);
-    }
-    Command::Desk
+    Command::From { node }
 }
 
-// `from NODE`, after its first word.
-fn parse_from(line: &[u8], at: usize) -> Command
-    ensures { λ r. ⌜ r ≡ fromCommand (otherWords (drop at (now (line .entry)))) ⌝ }
+// `from NODE`, or `to NODE`, after its first word.
+fn parse_node(line: &[u8], at: usize, to: bool) -> Command
+    ensures { λ r. ⌜ r ≡ nodeCommand (endAsked to) (otherWords (drop at (now (line .entry)))) ⌝ }
 {
     let Field::Read(node, end) = words::read_field(line, at, MOST_U8) else {
         return Command::Desk;
     };
-    at_end(line, end, Command::From { node: node as u8 })
+    let command = node_command(to, node as u8);
+    at_end(line, end, command)
 }
 
-// `from`, or a line on the frequency grid, by its first word, which ends at the position.
-fn parse_lookup_line(first: &[u8], line: &[u8], end: usize) -> Command
-    ensures { λ r. ⌜ r ≡ lookupWords (now (first .entry)) (otherWords (drop end (now (line .entry)))) ⌝ }
-{
-    if words::same_text(first, b"from") {
-        return parse_from(line, end);
-    }
-    parse_grid_line(first, line, end)
-}
-
-// `tidy`, or a line that changes nothing, by its first word, which ends at the position.
-fn parse_change_line(first: &[u8], line: &[u8], end: usize) -> Command
-    ensures { λ r. ⌜ r ≡ changeWords (now (first .entry)) (otherWords (drop end (now (line .entry)))) ⌝ }
-{
-    if words::same_text(first, b"tidy") {
-        return at_end(line, end, Command::Tidy);
-    }
-    parse_lookup_line(first, line, end)
-}
-
-// What a line asks for, without its line end.
+// What a line asks for, without its line end. The first words stand in the order of the arms.
 pub fn parse_command(line: &[u8]) -> Command
     ensures { λ r. ⌜ r ≡ commandOf (now (line .entry)) ⌝ }
 {
@@ -225,24 +208,23 @@ pub fn parse_command(line: &[u8]) -> Command
         return Command::Desk;
     }
     let end = words::word_end(line, 0);
-    let first = &line[..end];
-    if words::same_text(first, b"read") {
-        return parse_read(line, end);
+    let kind = words::word_index(
+        &line[..end],
+        b"read write load link circuits show frequency wavelength tidy from to nodes",
+    );
+    match kind {
+        0 => parse_read(line, end),
+        1 => parse_write(line, end),
+        2 => at_end(line, end, Command::Load),
+        3 => parse_link(line, end),
+        4 => at_end(line, end, Command::Circuits),
+        5 => at_end(line, end, Command::Show),
+        6 => parse_grid(line, end, false),
+        7 => parse_grid(line, end, true),
+        8 => at_end(line, end, Command::Tidy),
+        9 => parse_node(line, end, false),
+        10 => parse_node(line, end, true),
+        11 => at_end(line, end, Command::Nodes),
+        _ => Command::Desk,
     }
-    if words::same_text(first, b"write") {
-        return parse_write(line, end);
-    }
-    if words::same_text(first, b"load") {
-        return at_end(line, end, Command::Load);
-    }
-    if words::same_text(first, b"link") {
-        return parse_link(line, end);
-    }
-    if words::same_text(first, b"circuits") {
-        return at_end(line, end, Command::Circuits);
-    }
-    if words::same_text(first, b"show") {
-        return at_end(line, end, Command::Show);
-    }
-    parse_change_line(first, line, end)
 }

@@ -8,7 +8,8 @@ use Rattle.text.specs.Number.{number, numberAfter}
 use Rattle.requests.specs.declared.Request.the-variants.{Open, Close}
 use Rattle.requests.specs.declared.Line.{Line}
 use Rattle.words.specs.Split.{wordsAfter}
-use Rattle.requests.specs.Line.{plainLine, bad, ring, field, portsAfter, parseRing, parseOpen, parseClose, parseWords, parseLine}
+use Rattle.words.specs.Parse.{field}
+use Rattle.requests.specs.Line.{plainLine, bad, ring, portsAfter, parseRing, parseOpen, parseClose, parseWords, parseLine}
 
 -- the request for a circuit
 abbrev opening : ℕ → ℕ → ℕ → ℕ → ℕ → Line

@@ -19,7 +19,8 @@ use Rattle.requests.specs.declared.Request.{Request}
 use Rattle.requests.specs.declared.Request.the-variants.{Ring, Open, Close, Bad}
 use Rattle.requests.specs.declared.Line.{Line}
 use Rattle.words.specs.Split.{wordsAfter, words, sameText}
-use Rattle.requests.specs.Line.{longestLine, portRoom, bad, given, field, atEnd, portsAfter, parseRing, parseOpen, parseClose, parseWords, parseLine}
+use Rattle.words.specs.Parse.{given, field, atEnd}
+use Rattle.requests.specs.Line.{longestLine, portRoom, bad, portsAfter, parseRing, parseOpen, parseClose, parseWords, parseLine}
 
 -- the bytes that words take, each with a space
 abbrev size : List (List ℕ) → ℕ
@@ -45,7 +46,7 @@ Few most Bad = Unit {0}
 
 -- each part of a definition keeps the bound
 module _ (most : ℕ) where
-  few-given : (n : Number) (f : ℕ → Line) → ((k : ℕ) → n ≡ Got k → Few most (f k .request)) → Few most (given n f .request)
+  few-given : (n : Number) (f : ℕ → Line) → ((k : ℕ) → n ≡ Got k → Few most (f k .request)) → Few most (given bad n f .request)
   few-given (Got k) f h = h k refl
   few-given Missing f h = tt
 
@@ -53,12 +54,12 @@ module _ (most : ℕ) where
   few-pick true a b p q = p
   few-pick false a b p q = q
 
-  few-end : (ws : List (List ℕ)) (a : Line) → Few most (a .request) → Few most (atEnd ws a .request)
+  few-end : (ws : List (List ℕ)) (a : Line) → Few most (a .request) → Few most (atEnd bad ws a .request)
   few-end [] a p = p
   few-end (w ∷ ws) a p = tt
 
   few-field : (bits : ℕ) (ws : List (List ℕ)) (f : ℕ → List (List ℕ) → Line) → ((n : ℕ) (vs : List (List ℕ)) → size vs ≤ size ws → Few most (f n vs .request))
-      → Few most (field bits ws f .request)
+      → Few most (field bad bits ws f .request)
   unfolding field
   few-field bits [] f h = tt
   few-field bits (w ∷ ws) f h = few-given (number _ w) _ (λ n e. h n ws (omega arith))

@@ -14,7 +14,7 @@ use Rattle.requests.specs.Line.{longestLine, portRoom, bad, portsAfter, 
 use Rattle.words.specs.Field.{Next, FieldAt}
 use Rattle.words.proofs.Split.{words-next}
 use Rattle.words.proofs.Fields.{read-next, read-small}
-use Rattle.requests.proofs.Fields.{field-read}
+use Rattle.words.proofs.Parse.{field-read}
 
 -- of a ring of n nodes count ports are read, up to position i
 pub record Porting (b : List ℕ) (at n : ℕ) (ports : List ℕ) (count i : ℕ) : Type 0 where
@@ -29,7 +29,7 @@ pub record Porting (b : List ℕ) (at n : ℕ) (ports : List ℕ) (count i : ℕ
 pub ports-start : (b : List ℕ) (at : ℕ) (r : Field) (n i : ℕ) → FieldAt (2 ^ 8) b at r → r ≡ Read n i → length b ≤ longestLine → Porting b at n (replicate portRoom 0) 0 i
 unfolding parseRing
 ports-start b at r n i h k s =
-    record { ks = []; is = sym (field-read 8 b at r h (λ n ws. portsAfter n [] ws) _ n i k refl); counted = refl; stand = refl; short = s; room = omega arith }
+    record { ks = []; is = sym (field-read Line bad 8 b at r h (λ n ws. portsAfter n [] ws) _ n i k refl); counted = refl; stand = refl; short = s; room = omega arith }
 
 module _ (b : List ℕ) (at n : ℕ) (ports : List ℕ) (count i : ℕ) (q : Porting b at n ports count i) where
   pub ports-end : length b ≤ i → record { request = Ring n count; ports = ports } ≡ parseRing (otherWords (drop at b))

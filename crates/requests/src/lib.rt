@@ -3,7 +3,8 @@ ghost use mathlib.Core.Path.{_≡_};
 ghost use Prim.Native.Nat.{_≤_};
 ghost use lib.ListN.{length, drop};
 ghost use Rattle.words.specs.Split.{otherWords};
-ghost use Rattle.requests.specs.Line.{longestLine, plainLine, atEnd, parseRing, parseOpen, parseClose, parseLine};
+ghost use Rattle.words.specs.Parse.{atEnd};
+ghost use Rattle.requests.specs.Line.{longestLine, plainLine, bad, parseRing, parseOpen, parseClose, parseLine};
 ghost use Rattle.requests.specs.Details.{parseDetails};
 use lightpath::Circuit;
 use words::Field;
@@ -43,7 +44,7 @@ fn plain(request: Request) -> Line
 
 // The request, where the word that ends at the position is the last.
 fn at_end(line: &[u8], at: usize, request: Request) -> Line
-    ensures { λ r. ⌜ r ≡ atEnd (otherWords (drop at (now (line .entry)))) (plainLine request) ⌝ }
+    ensures { λ r. ⌜ r ≡ atEnd bad (otherWords (drop at (now (line .entry)))) (plainLine request) ⌝ }
 {
     if at < line.len() {
         return plain(Request::Bad);
@@ -129,7 +130,7 @@ fn parse_close(line: &[u8], at: usize) -> Line
     at_end(line, end, Request::Close { number })
 }
 
-// The request that a line is, without its line end.
+// The request that a line is, without its line end. The first words stand in the order of the arms.
 pub fn parse_line(line: &[u8]) -> Line
     ensures { λ r. ⌜ r ≡ parseLine (now (line .entry)) ⌝ }
 {
@@ -137,15 +138,11 @@ pub fn parse_line(line: &[u8]) -> Line
         return plain(Request::Bad);
     }
     let end = words::word_end(line, 0);
-    let first = &line[..end];
-    if words::same_text(first, b"ring") {
-        return parse_ring(line, end);
+    let kind = words::word_index(&line[..end], b"ring open close");
+    match kind {
+        0 => parse_ring(line, end),
+        1 => parse_open(line, end),
+        2 => parse_close(line, end),
+        _ => plain(Request::Bad),
     }
-    if words::same_text(first, b"open") {
-        return parse_open(line, end);
-    }
-    if words::same_text(first, b"close") {
-        return parse_close(line, end);
-    }
-    plain(Request::Bad)
 }

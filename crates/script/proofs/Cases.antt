@@ -15,7 +15,8 @@ use Rattle.text.specs.Bytes.{bytes}
 use Rattle.text.specs.Decimal.{digitsUpTo, decimal}
 use Rattle.text.specs.Number.{numberAfter, number}
 use Rattle.words.specs.Split.{wordsAfter}
-use Rattle.requests.specs.Line.{field, portsAfter, parseRing, parseOpen, parseClose, parseWords, parseLine}
+use Rattle.words.specs.Parse.{field}
+use Rattle.requests.specs.Line.{portsAfter, parseRing, parseOpen, parseClose, parseWords, parseLine}
 use Rattle.print.specs.Answers.{piece, moveLine}
 use Rattle.script.specs.Script.{linesAfter, linesText, scriptText}
 use Rattle.desk.specs.Desk.{runRing, runOpen, runClose}

@@ -1,5 +1,5 @@
 -- The words of a line, and whether two texts are the same. Assumes nothing.
--- What `word_end` and `same_text` promise, and what a line of a script is read by.
+-- What `word_end`, `same_text` and `word_index` promise, and what a line of a script is read by.
 use Prim.Native.Nat.{ℕ}
 use mathlib.Core.Bool.{Bool, true, false, _&&_}
 use mathlib.Core.List.{List, [], _∷_, _++_}
@@ -31,3 +31,7 @@ sameText [] [] = true
 sameText [] (y ∷ t) = false
 sameText (x ∷ s) [] = false
 sameText (x ∷ s) (y ∷ t) = eqb x y && sameText s t
+
+-- the position of a word among the words of a text; their number where it is none of them
+abbrev pub wordIndex : List ℕ → List ℕ → ℕ
+wordIndex w s = firstPlace (sameText w) (words s)

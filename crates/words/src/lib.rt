@@ -2,7 +2,7 @@
 ghost use mathlib.Core.Path.{_≡_};
 ghost use Prim.Native.Nat.{_+_};
 ghost use lib.ListN.{drop};
-ghost use Rattle.words.specs.Split.{sameText, wordLength};
+ghost use Rattle.words.specs.Split.{sameText, wordIndex, wordLength};
 ghost use Rattle.words.specs.Field.{FieldAt};
 ghost use Rattle.words.specs.SignedField.{SignedFieldAt};
 use text::Number;
@@ -44,6 +44,23 @@ pub fn same_text(a: &[u8], b: &[u8]) -> bool
         i += 1;
     }
     true
+}
+
+// Which word of a list of words, parted by spaces, a word is, counted from 0; their number where it is none of them.
+pub fn word_index(word: &[u8], list: &[u8]) -> usize
+    ensures { λ r. ⌜ r ≡ wordIndex (now (word .entry)) (now (list .entry)) ⌝ }
+{
+    let mut index: usize = 0;
+    let mut start: usize = 0;
+    while start <= list.len() {
+        let end = word_end(list, start);
+        if same_text(word, &list[start..end]) {
+            return index;
+        }
+        index += 1;
+        start = end + 1;
+    }
+    index
 }
 
 // What the next word is: a number, and the word's end; or no number, or there is no word.

@@ -1,7 +1,8 @@
 -- `commands::parse_grid` meets its contract. Assumes nothing.
 use borrow.Author.Needs.{needs}
 use Rattle.commands.specs.Command.{gridCommand}
-use Rattle.commands.proofs.Fields.{fields, end-given}
+use Rattle.words.proofs.Parse.{parsing}
+use Rattle.commands.proofs.Fields.{end-given}
 use Rattle.commands.proofs.parse_grid.Statement.{statement}
 use Rattle.commands.proofs.parse_grid.Tie as tie
 
@@ -16,7 +17,7 @@ enum-told c = search needs
 
 returns : tie.Need-returns
 unfolding gridCommand
-returns c = search (needs, fields)
+returns c = search (needs, parsing)
 
 read-signed-field-requires : tie.Need-read-signed-field-requires
 read-signed-field-requires c κs = search needs
@@ -29,7 +30,7 @@ enum-told-2 c = search needs
 
 returns-2 : tie.Need-returns-2
 unfolding gridCommand
-returns-2 c = search (needs, fields)
+returns-2 c = search (needs, parsing)
 
 read-field-requires-2 : tie.Need-read-field-requires-2
 read-field-requires-2 c κs = search needs
@@ -42,13 +43,13 @@ enum-told-3 c = search needs
 
 returns-3 : tie.Need-returns-3
 unfolding gridCommand
-returns-3 c = search (needs, fields)
+returns-3 c = search (needs, parsing)
 
 cast-grid-command : tie.Need-cast-grid-command
-cast-grid-command c = search (needs, fields)
+cast-grid-command c = search (needs, parsing)
 
 cast-grid-command-2 : tie.Need-cast-grid-command-2
-cast-grid-command-2 c = search (needs, fields)
+cast-grid-command-2 c = search (needs, parsing)
 
 grid-command-requires : tie.Need-grid-command-requires
 grid-command-requires c κs = search needs
@@ -58,7 +59,7 @@ at-end-requires c κs = search needs
 
 returns-4 : tie.Need-returns-4
 unfolding gridCommand
-returns-4 c = search (needs, fields, end-given)
+returns-4 c = search (needs, parsing, end-given)
 
 pub parse-grid-spec : {M : Type 1} → statement M
 parse-grid-spec =

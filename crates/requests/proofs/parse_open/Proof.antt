@@ -2,73 +2,73 @@
 use borrow.Author.Needs.{needs}
 use Rattle.requests.specs.Line.{parseOpen}
 use Rattle.requests.specs.Details.{parseDetails}
-use Rattle.requests.proofs.Fields.{requests}
+use Rattle.words.proofs.Parse.{parsing}
 use Rattle.requests.proofs.parse_open.Statement.{statement}
 use Rattle.requests.proofs.parse_open.Tie as tie
 
 read-field-requires : tie.Need-read-field-requires
-read-field-requires c κs = search (needs, requests)
+read-field-requires c κs = search (needs, parsing)
 
 enum-known-number : tie.Need-enum-known-number
-enum-known-number c = search (needs, requests)
+enum-known-number c = search (needs, parsing)
 
 enum-told : tie.Need-enum-told
-enum-told c = search (needs, requests)
+enum-told c = search (needs, parsing)
 
 plain-requires : tie.Need-plain-requires
-plain-requires c κs = search (needs, requests)
+plain-requires c κs = search (needs, parsing)
 
 returns : tie.Need-returns
 unfolding parseOpen
-returns c = search (needs, requests)
+returns c = search (needs, parsing)
 
 read-field-requires-2 : tie.Need-read-field-requires-2
-read-field-requires-2 c κs = search (needs, requests)
+read-field-requires-2 c κs = search (needs, parsing)
 
 enum-known-source : tie.Need-enum-known-source
-enum-known-source c = search (needs, requests)
+enum-known-source c = search (needs, parsing)
 
 enum-told-2 : tie.Need-enum-told-2
-enum-told-2 c = search (needs, requests)
+enum-told-2 c = search (needs, parsing)
 
 plain-requires-2 : tie.Need-plain-requires-2
-plain-requires-2 c κs = search (needs, requests)
+plain-requires-2 c κs = search (needs, parsing)
 
 returns-2 : tie.Need-returns-2
 unfolding parseOpen
-returns-2 c = search (needs, requests)
+returns-2 c = search (needs, parsing)
 
 read-field-requires-3 : tie.Need-read-field-requires-3
-read-field-requires-3 c κs = search (needs, requests)
+read-field-requires-3 c κs = search (needs, parsing)
 
 enum-known-destination : tie.Need-enum-known-destination
-enum-known-destination c = search (needs, requests)
+enum-known-destination c = search (needs, parsing)
 
 enum-told-3 : tie.Need-enum-told-3
-enum-told-3 c = search (needs, requests)
+enum-told-3 c = search (needs, parsing)
 
 plain-requires-3 : tie.Need-plain-requires-3
-plain-requires-3 c κs = search (needs, requests)
+plain-requires-3 c κs = search (needs, parsing)
 
 returns-3 : tie.Need-returns-3
 unfolding parseOpen
-returns-3 c = search (needs, requests)
+returns-3 c = search (needs, parsing)
 
 cast-number : tie.Need-cast-number
-cast-number c = search (needs, requests)
+cast-number c = search (needs, parsing)
 
 cast-source : tie.Need-cast-source
-cast-source c = search (needs, requests)
+cast-source c = search (needs, parsing)
 
 cast-destination : tie.Need-cast-destination
-cast-destination c = search (needs, requests)
+cast-destination c = search (needs, parsing)
 
 parse-details-requires : tie.Need-parse-details-requires
-parse-details-requires c κs = search (needs, requests)
+parse-details-requires c κs = search (needs, parsing)
 
 returns-4 : tie.Need-returns-4
 unfolding parseOpen parseDetails
-returns-4 c = search (needs, requests)
+returns-4 c = search (needs, parsing)
 
 pub parse-open-spec : {M : Type 1} → statement M
 parse-open-spec =

@@ -3,7 +3,7 @@ use Prim.Native.Nat.{_-_}
 use lib.ListN.{length}
 use borrow.Author.Needs.{needs}
 use Rattle.requests.specs.Line.{parseRing}
-use Rattle.requests.proofs.Fields.{field-unread}
+use Rattle.words.proofs.Parse.{field-unread}
 use Rattle.requests.proofs.Ports.{Porting, porting}
 use Rattle.requests.proofs.parse_ring.Statement.{statement}
 use Rattle.requests.proofs.parse_ring.Tie as tie
