@@ -123,7 +123,8 @@ pub fn outcome_of(answer: &[String]) -> Option<Outcome> {
     let words: Vec<&str> = answer.first()?.split(' ').collect();
     Some(match words[..] {
         ["line", "refused"] => Outcome::LineRefused,
-        ["ring" | "close" | "tidy" | "read" | "link" | "from" | "frequency" | "wavelength", "refused", refusal]
+        ["ring" | "close" | "tidy" | "read" | "link" | "from" | "to" | "frequency"
+        | "wavelength", "refused", refusal]
         | ["open", _, "refused", refusal] => Outcome::Refused { number: refusal.parse().ok()? },
         ["ring", _, "wavelengths", _] => Outcome::Ring,
         ["read", _, "wavelengths", _] => Outcome::Read,
@@ -180,9 +181,18 @@ mod tests {
         assert_eq!(outcome("frequency 1929500"), Some(Outcome::Frequency { count: 1_929_500 }));
         assert_eq!(outcome("wavelength 63"), Some(Outcome::Wavelength { number: 63 }));
         assert_eq!(outcome("from 2 circuits 0"), Some(Outcome::Told));
-        for line in
-            ["ring", "open 3", "close", "tidy", "read", "link", "from", "frequency", "wavelength"]
-        {
+        for line in [
+            "ring",
+            "open 3",
+            "close",
+            "tidy",
+            "read",
+            "link",
+            "from",
+            "to",
+            "frequency",
+            "wavelength",
+        ] {
             let refused = outcome(&format!("{line} refused 16"));
             assert_eq!(refused, Some(Outcome::Refused { number: 16 }), "{line}");
         }

@@ -11,7 +11,7 @@ use crate::files;
 use crate::form::{self, form_of};
 use crate::grid::FrequencyPlan;
 use crate::lines::{for_each_line, number, signed_number, words};
-use crate::lookup::circuits_from;
+use crate::lookup::{circuits_from, circuits_to, nodes, NodeUse};
 use crate::opening::Move;
 use crate::place::Wavelength;
 use crate::refusal::Refusal;
@@ -50,6 +50,8 @@ pub enum Question {
     Link { link: u64, wavelength: u64, direction: u64 },
     Circuits,
     From { node: u8 },
+    To { node: u8 },
+    Nodes,
 }
 
 #[derive(Clone, PartialEq, Eq, Debug)]
@@ -87,6 +89,13 @@ pub enum Answer {
         lightpaths: Vec<Lightpath>,
     },
     FromRefused(Refusal),
+    /// Those that the node receives, by rising number.
+    To {
+        node: u8,
+        lightpaths: Vec<Lightpath>,
+    },
+    ToRefused(Refusal),
+    Nodes(Vec<NodeUse>),
 }
 
 const LINE_REFUSED: Answer = Answer::Script(script::Answer::LineRefused);
@@ -187,6 +196,11 @@ impl Question {
                 Ok(lightpaths) => Answer::From { node, lightpaths },
                 Err(refusal) => Answer::FromRefused(refusal),
             },
+            &Question::To { node } => match circuits_to(table, node) {
+                Ok(lightpaths) => Answer::To { node, lightpaths },
+                Err(refusal) => Answer::ToRefused(refusal),
+            },
+            Question::Nodes => Answer::Nodes(nodes(table)),
         }
     }
 }
@@ -234,6 +248,8 @@ pub fn parse(line: &[u8]) -> Option<Command> {
         }),
         b"circuits" => Command::Ask(Question::Circuits),
         b"from" => Command::Ask(Question::From { node: byte(words.next()?)? }),
+        b"to" => Command::Ask(Question::To { node: byte(words.next()?)? }),
+        b"nodes" => Command::Ask(Question::Nodes),
         _ => return script::parse(line).map(Command::Script),
     };
     match words.next() {
@@ -323,6 +339,15 @@ impl Answer {
                 lightpaths.iter().try_for_each(|lightpath| write_sent(lightpath, out))
             }
             Answer::FromRefused(refusal) => writeln!(out, "from refused {}", refusal.number()),
+            Answer::To { node, lightpaths } => {
+                writeln!(out, "to {node} circuits {}", lightpaths.len())?;
+                lightpaths.iter().try_for_each(|lightpath| write_received(lightpath, out))
+            }
+            Answer::ToRefused(refusal) => writeln!(out, "to refused {}", refusal.number()),
+            Answer::Nodes(nodes) => {
+                writeln!(out, "nodes {}", nodes.len())?;
+                nodes.iter().try_for_each(|node| write_node(node, out))
+            }
         }
     }
 }
@@ -337,6 +362,17 @@ fn write_lightpath(lightpath: &Lightpath, out: &mut impl Write) -> io::Result<()
 fn write_sent(lightpath: &Lightpath, out: &mut impl Write) -> io::Result<()> {
     let Circuit { number, destination, .. } = lightpath.circuit;
     writeln!(out, "circuit {number} to {destination} place {}", lightpath.place.0)
+}
+
+/// A circuit among those of its destination.
+fn write_received(lightpath: &Lightpath, out: &mut impl Write) -> io::Result<()> {
+    let Circuit { number, source, .. } = lightpath.circuit;
+    writeln!(out, "circuit {number} from {source} place {}", lightpath.place.0)
+}
+
+fn write_node(node: &NodeUse, out: &mut impl Write) -> io::Result<()> {
+    let NodeUse { node, ports, sends, receives } = node;
+    writeln!(out, "node {node} ports {ports} sends {sends} receives {receives}")
 }
 
 /// The bytes as pairs of digits, as a line gives a saved form.

@@ -1,4 +1,4 @@
-// What is printed of a node's row: the number of circuits that it sends, and a line for each.
+// What is printed of a node's row: the number of circuits that it sends, or receives, and a line for each.
 
 ghost use mathlib.Core.Path.{_≡_};
 ghost use Prim.Native.Nat.{_+_, _≤_};
@@ -8,67 +8,75 @@ ghost use Rattle.entries.specs.Entry.{entryOf};
 ghost use Rattle.roster.specs.Roster.{entriesIn, placesOf};
 ghost use Rattle.roster.specs.Held.{Holds};
 ghost use Rattle.buffer.specs.Put.{Printed};
-ghost use Rattle.row_lines.specs.Lines.{sentLine, sentLines, rowText, fromText, sentRoom, sentLinesRoom, fromRoom};
+ghost use Rattle.row_lines.specs.Lines.{entryLine, entryLines, firstLine, rowText, fromText, entryRoom, entryLinesRoom, firstRoom, fromRoom};
 use limits::MOST_PORTS;
 use refusals::Refusal;
 use roster::Heading;
 
 // The most bytes of the first line, and of a circuit's.
-const FROM_LINE_ROOM: usize = 36;
+const FIRST_ROOM: usize = 36;
 
-const SENT_ROOM: usize = 50;
+const ENTRY_ROOM: usize = 52;
 
-// The most bytes of the answer: a node sends at most as many circuits as it has ports.
-pub const FROM_ROOM: usize = FROM_LINE_ROOM + MOST_PORTS as usize * SENT_ROOM;
+// The most bytes of the answer: a node sends at most as many circuits as it has ports, and receives at most as many.
+pub const FROM_ROOM: usize = FIRST_ROOM + MOST_PORTS as usize * ENTRY_ROOM;
 
-// `circuit NUMBER to DESTINATION place PLACE`, of an entry's key and rest.
-fn put_sent(out: &mut [u8], at: usize, key: u64, rest: u64) -> usize
-    requires { ⌜ at + sentRoom ≤ length (now out) ⌝ }
-    ensures { λ r. ⌜ Printed sentRoom (now (out .entry)) at (sentLine (entryOf key rest)) (now (out .exit)) r ⌝ }
+// `circuit NUMBER from SOURCE place PLACE`, or `circuit NUMBER to DESTINATION place PLACE`, of an entry's key and rest.
+fn put_entry(out: &mut [u8], at: usize, to: bool, key: u64, rest: u64) -> usize
+    requires { ⌜ at + entryRoom ≤ length (now out) ⌝ }
+    ensures { λ r. ⌜ Printed entryRoom (now (out .entry)) at (entryLine to (entryOf key rest)) (now (out .exit)) r ⌝ }
 {
     let entry = entries::entry_of(key, rest);
     let place = entry.place as u32;
     let circuit = entry.circuit;
-    print::put_filled(
-        out,
-        at,
-        b"circuit # to # place #\n",
-        circuit.number,
-        circuit.destination as u32,
-        place,
-        0,
-    )
+    let number = circuit.number;
+    let end = circuit.destination as u32;
+    if to {
+        return print::put_filled(
+            out,
+            at,
+            b"circuit # from # place #\n",
+            number,
+            end,
+            place,
+            0,
+        );
+    }
+    print::put_filled(out, at, b"circuit # to # place #\n", number, end, place, 0)
 }
 
 // The lines of the entries, in their order.
-fn put_sent_lines(out: &mut [u8], at: usize, keys: &[u64], rests: &[u64]) -> usize
-    requires { ⌜ (at + sentLinesRoom ≤ length (now out)) × ((length (now keys) ≤ mostPorts) × (length (now rests) ≡ length (now keys))) ⌝ }
-    ensures { λ r. ⌜ Printed sentLinesRoom (now (out .entry)) at (sentLines (entriesIn (now (keys .entry)) (now (rests .entry)))) (now (out .exit)) r ⌝ }
+fn put_entries(out: &mut [u8], at: usize, to: bool, keys: &[u64], rests: &[u64]) -> usize
+    requires { ⌜ (at + entryLinesRoom ≤ length (now out)) × ((length (now keys) ≤ mostPorts) × (length (now rests) ≡ length (now keys))) ⌝ }
+    ensures { λ r. ⌜ Printed entryLinesRoom (now (out .entry)) at (entryLines to (entriesIn (now (keys .entry)) (now (rests .entry)))) (now (out .exit)) r ⌝ }
 {
     let mut next = at;
     let mut i: usize = 0;
     while i < keys.len() {
-        next = put_sent(out, next, keys[i], rests[i]);
+        next = put_entry(out, next, to, keys[i], rests[i]);
         i += 1;
     }
     next
 }
 
-// `from NODE circuits COUNT`, and the lines of the entries of its row.
-fn put_row(out: &mut [u8], at: usize, node: u8, keys: &[u64], rests: &[u64]) -> usize
-    requires { ⌜ (at + fromRoom ≤ length (now out)) × ((length (now keys) ≤ mostPorts) × (length (now rests) ≡ length (now keys))) ⌝ }
-    ensures { λ r. ⌜ Printed fromRoom (now (out .entry)) at (rowText node (entriesIn (now (keys .entry)) (now (rests .entry)))) (now (out .exit)) r ⌝ }
+// `to NODE circuits COUNT`, or `from NODE circuits COUNT`.
+fn put_first(out: &mut [u8], at: usize, to: bool, node: u8, count: u32) -> usize
+    requires { ⌜ at + firstRoom ≤ length (now out) ⌝ }
+    ensures { λ r. ⌜ Printed firstRoom (now (out .entry)) at (firstLine to node count) (now (out .exit)) r ⌝ }
 {
-    let next = print::put_filled(
-        out,
-        at,
-        b"from # circuits #\n",
-        node as u32,
-        keys.len() as u32,
-        0,
-        0,
-    );
-    put_sent_lines(out, next, keys, rests)
+    if to {
+        return print::put_filled(out, at, b"to # circuits #\n", node as u32, count, 0, 0);
+    }
+    print::put_filled(out, at, b"from # circuits #\n", node as u32, count, 0, 0)
+}
+
+// The first line, and the lines of the entries of the node's row.
+pub fn put_row(out: &mut [u8], at: usize, to: bool, node: u8, keys: &[u64], rests: &[u64]) -> usize
+    requires { ⌜ (at + fromRoom ≤ length (now out)) × ((length (now keys) ≤ mostPorts) × (length (now rests) ≡ length (now keys))) ⌝ }
+    ensures { λ r. ⌜ Printed fromRoom (now (out .entry)) at (rowText to node (entriesIn (now (keys .entry)) (now (rests .entry)))) (now (out .exit)) r ⌝ }
+{
+    let next = put_first(out, at, to, node, keys.len() as u32);
+    put_entries(out, next, to, keys, rests)
 }
 
 // Answers `from NODE`, of the entries that keys and rests hold: from the node's row, or `from refused R` where the node is off the ring.
@@ -89,5 +97,5 @@ pub fn put_from(
     let row = rows::row_of(keys, heading.count as usize, node);
     let start = row.start;
     let end = row.end;
-    put_row(out, at, node, &keys[start..end], &rests[start..end])
+    put_row(out, at, false, node, &keys[start..end], &rests[start..end])
 }

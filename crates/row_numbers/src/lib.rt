@@ -35,7 +35,7 @@ pub enum Row {
 }
 
 // An end of a circuit: its source, which takes a transmitter, or its destination, which takes a receiver.
-enum End {
+pub enum End {
     Source,
     Destination,
 }
@@ -61,7 +61,7 @@ fn used_at(slot: Slot, end: End, node: u8) -> usize
 }
 
 // How many circuits have a node at an end.
-fn used(channels: [Channel; PLACE_COUNT], end: End, node: u8) -> usize
+pub fn used(channels: [Channel; PLACE_COUNT], end: End, node: u8) -> usize
     ensures { λ r. ⌜ r ≡ tally (nodeAt end) node (circuits channels) ⌝ }
 {
     let mut count: usize = 0;

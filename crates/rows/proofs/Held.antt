@@ -15,7 +15,7 @@ use Rattle.limits.specs.Limits.{mostPorts, mostCircuits}
 use Rattle.lightpath.specs.Circuit.{onRing}
 use Rattle.channels.specs.Channels.{Channels, circuits}
 use Rattle.ports.specs.Ports.{eachAtMost}
-use Rattle.ports_used.specs.PortsUsed.{sends}
+use Rattle.ports_used.specs.PortsUsed.{sends, receives}
 use Rattle.rules.proofs.Rules.{Rules, limits-hold}
 use Rattle.entries.specs.Entry.{inFields}
 use Rattle.entries.specs.Lists.{Rising}
@@ -71,6 +71,14 @@ sends-most N ks t rules (suc j) on =
     let l = limits-hold N ks t rules in
     let i = leb-true (suc j) N (and-right (leb 1 (suc j)) _ on) in
     omega (arith, rules .ports j (omega (arith, l .fields, l .most)) .0, each-at mostPorts ks (search (rules .bounds, and-left, and-right)) j)
+
+-- and receives at most as many
+pub receives-most : (N : ℕ) (ks : List ℕ) (t : Channels) → Rules N ks t → (node : ℕ) → onRing N node ≡ true → receives node (circuits t) ≤ mostPorts
+receives-most N ks t rules zero on = absurd (omega (arith, leb-true 1 0 (and-left (leb 1 0) (leb 0 N) on)))
+receives-most N ks t rules (suc j) on =
+    let l = limits-hold N ks t rules in
+    let i = leb-true (suc j) N (and-right (leb 1 (suc j)) _ on) in
+    omega (arith, rules .ports j (omega (arith, l .fields, l .most)) .1, each-at mostPorts ks (search (rules .bounds, and-left, and-right)) j)
 
 -- ---- the row
 

@@ -3,7 +3,7 @@
 use std::fmt;
 
 use super::grid::{self, GridEvent, Way};
-use super::lookup::{self, LookupEvent};
+use super::lookup::{self, LookupEvent, NodesEvent};
 use super::tidying::{self, TidyingEvent};
 use crate::form::Fault;
 use crate::place::Direction::{self, Clockwise, Counterclockwise};
@@ -120,8 +120,12 @@ pub enum Event {
     Exactly8192Good,
     /// What a line on a frequency plan reached.
     Grid(Way, GridEvent),
-    /// What a lookup by node reached.
+    /// What a lookup of the circuits from a node reached.
     Lookup(LookupEvent),
+    /// What a lookup of the circuits to a node reached.
+    Received(LookupEvent),
+    /// What a list of all nodes reached.
+    Nodes(NodesEvent),
     /// What a tidying reached.
     Tidying(TidyingEvent),
 }
@@ -191,7 +195,7 @@ pub const SCRIPT_EVENTS: [Event; 57] = [
 
 /// Every event that the other lines of the planning program can show, but those on frequency plans,
 /// of lookups and of tidyings.
-pub const PLAN_EVENTS: [Event; 84] = [
+pub const PLAN_EVENTS: [Event; 86] = [
     Read,
     ReadBeforeRing,
     ReadReplaced,
@@ -270,6 +274,8 @@ pub const PLAN_EVENTS: [Event; 84] = [
     RefusedBeforeTable("link"),
     RefusedBeforeTable("circuits"),
     RefusedBeforeTable("from"),
+    RefusedBeforeTable("to"),
+    RefusedBeforeTable("nodes"),
     RefusedBeforeTable("tidy"),
     RefusedOddDigits,
     RefusedCapitalDigit,
@@ -410,7 +416,9 @@ impl fmt::Display for Event {
             RefusedOver8192 => "line refused: over 8,192 bytes",
             Exactly8192Good => "good line of exactly 8,192 bytes",
             Grid(way, event) => return grid::write(f, *way, *event),
-            Lookup(event) => return lookup::write(f, *event),
+            Lookup(event) => return lookup::write(f, "from", *event),
+            Received(event) => return lookup::write(f, "to", *event),
+            Nodes(event) => return lookup::write_nodes(f, *event),
             Tidying(event) => return tidying::write(f, *event),
         })
     }

@@ -1,14 +1,20 @@
-//! What lookups by node reach.
+//! What lookups by node and lists of all nodes reach.
 
 use std::fmt;
 
 use super::{Coverage, Event};
 use crate::lines::words;
+use crate::lookup::NodeUse;
 use crate::plan::{parse, Answer, Command, Question};
+use crate::refusal::Refusal;
 use crate::table::{Channel, Lightpath, Table, NODES_MOST, NODE_PORTS_MOST};
 use LookupEvent::*;
+use NodesEvent::*;
 
-/// What a lookup can show.
+/// The event that a sort is, of the circuits from a node or of those to it.
+type End = fn(LookupEvent) -> Event;
+
+/// What a lookup can show, of the circuits from a node (`from`) or of those to it (`to`).
 #[derive(Clone, Copy, PartialEq, Eq, PartialOrd, Ord, Debug)]
 pub enum LookupEvent {
     Found,
@@ -21,7 +27,7 @@ pub enum LookupEvent {
     PlaceFalls,
     /// Several circuits, as many as the node has ports.
     EveryPort,
-    /// 64 circuits, the most that a node sends.
+    /// 64 circuits, the most that a node sends or receives.
     MostCircuits,
     /// Node N, with a circuit.
     LastNode,
@@ -31,7 +37,7 @@ pub enum LookupEvent {
     OneOfTwo,
     /// One of the circuits was moved on the present table.
     AfterMove,
-    /// A circuit from the node was closed on the present table, and there is another.
+    /// A circuit of the node was closed on the present table, and there is another.
     AfterClosing,
     Refused(u8),
     RefusedZero,
@@ -39,80 +45,168 @@ pub enum LookupEvent {
     RefusedNext,
     /// Refused, with node 255.
     RefusedWidest,
-    /// A refused line: `from` alone.
+    /// A refused line: the first word alone.
     NoNode,
-    /// A refused line: `from` with more than one word after it.
+    /// A refused line: more than one word after the first.
     WordAfter,
     OddNode,
     WideNode,
 }
 
-/// Every event that lookups can show.
-pub const LOOKUP_EVENTS: [Event; 21] = [
-    Event::Lookup(Found),
-    Event::Lookup(NoCircuit),
-    Event::Lookup(NoCircuitOfSome),
-    Event::Lookup(OneCircuit),
-    Event::Lookup(SeveralCircuits),
-    Event::Lookup(PlaceFalls),
-    Event::Lookup(EveryPort),
-    Event::Lookup(MostCircuits),
-    Event::Lookup(LastNode),
-    Event::Lookup(LargestRing),
-    Event::Lookup(OneOfTwo),
-    Event::Lookup(AfterMove),
-    Event::Lookup(AfterClosing),
-    Event::Lookup(Refused(10)),
-    Event::Lookup(RefusedZero),
-    Event::Lookup(RefusedNext),
-    Event::Lookup(RefusedWidest),
-    Event::Lookup(NoNode),
-    Event::Lookup(WordAfter),
-    Event::Lookup(OddNode),
-    Event::Lookup(WideNode),
+/// What a list of all nodes can show.
+#[derive(Clone, Copy, PartialEq, Eq, PartialOrd, Ord, Debug)]
+pub enum NodesEvent {
+    Listed,
+    /// The ring has no circuit.
+    NoneOnRing,
+    /// 64 nodes, with a circuit.
+    OfLargestRing,
+    /// A node has no port.
+    WithoutPort,
+    /// Every transmitter of a node is taken, and not every receiver.
+    SendersTaken,
+    /// Every receiver of a node is taken, and not every transmitter.
+    ReceiversTaken,
+    /// A circuit was moved or closed on the present table.
+    AfterChange,
+    /// A refused line: `nodes` with a word after it.
+    NodesWordAfter,
+}
+
+/// Every sort of lookup event.
+const SORTS: [LookupEvent; 21] = [
+    Found,
+    NoCircuit,
+    NoCircuitOfSome,
+    OneCircuit,
+    SeveralCircuits,
+    PlaceFalls,
+    EveryPort,
+    MostCircuits,
+    LastNode,
+    LargestRing,
+    OneOfTwo,
+    AfterMove,
+    AfterClosing,
+    Refused(10),
+    RefusedZero,
+    RefusedNext,
+    RefusedWidest,
+    NoNode,
+    WordAfter,
+    OddNode,
+    WideNode,
 ];
+
+/// Every event that lookups of the circuits from a node can show.
+pub const LOOKUP_EVENTS: [Event; SORTS.len()] = events_of(Event::Lookup(Found));
+
+/// Every event that lookups of the circuits to a node can show.
+pub const RECEIVED_EVENTS: [Event; SORTS.len()] = events_of(Event::Received(Found));
+
+/// Every event that lists of all nodes can show.
+pub const NODES_EVENTS: [Event; 8] = [
+    Event::Nodes(Listed),
+    Event::Nodes(NoneOnRing),
+    Event::Nodes(OfLargestRing),
+    Event::Nodes(WithoutPort),
+    Event::Nodes(SendersTaken),
+    Event::Nodes(ReceiversTaken),
+    Event::Nodes(AfterChange),
+    Event::Nodes(NodesWordAfter),
+];
+
+/// The events of every sort, of those to a node or of those from it, as the given one is.
+const fn events_of(like: Event) -> [Event; SORTS.len()] {
+    let mut events = [like; SORTS.len()];
+    let mut index = 0;
+    while index < SORTS.len() {
+        events[index] = match like {
+            Event::Received(_) => Event::Received(SORTS[index]),
+            _ => Event::Lookup(SORTS[index]),
+        };
+        index += 1;
+    }
+    events
+}
 
 impl Coverage {
     /// Counts a well-formed lookup.
     pub(super) fn saw_lookup(&mut self, line: &[u8], answer: &Answer, table: &Table) {
         self.saw_numbers(line);
         match (parse(line), answer) {
-            (_, Answer::From { node, lightpaths }) => self.saw_found(table, *node, lightpaths),
+            (_, Answer::From { node, lightpaths }) => {
+                let was_closed = self.closed_from.contains(node);
+                self.saw_found(table, *node, lightpaths, was_closed, Event::Lookup);
+            }
+            (_, Answer::To { node, lightpaths }) => {
+                let was_closed = self.closed_to.contains(node);
+                self.saw_found(table, *node, lightpaths, was_closed, Event::Received);
+            }
             (Some(Command::Ask(Question::From { node })), Answer::FromRefused(refusal)) => {
-                self.saw_lookup_if(true, Refused(refusal.number()));
-                self.saw_lookup_if(node == 0, RefusedZero);
-                self.saw_lookup_if(node == table.nodes + 1, RefusedNext);
-                self.saw_lookup_if(node == u8::MAX, RefusedWidest);
+                self.saw_off_ring(table, node, refusal, Event::Lookup);
+            }
+            (Some(Command::Ask(Question::To { node })), Answer::ToRefused(refusal)) => {
+                self.saw_off_ring(table, node, refusal, Event::Received);
             }
             _ => unreachable!("the line looks a node up"),
         }
     }
 
+    fn saw_off_ring(&mut self, table: &Table, node: u8, refusal: &Refusal, end: End) {
+        self.saw(end(Refused(refusal.number())));
+        self.saw_if(node == 0, end(RefusedZero));
+        self.saw_if(node == table.nodes + 1, end(RefusedNext));
+        self.saw_if(node == u8::MAX, end(RefusedWidest));
+    }
+
     /// Counts what was found by how many circuits it is, and where they stand.
-    fn saw_found(&mut self, table: &Table, node: u8, found: &[Lightpath]) {
-        self.saw_lookup_if(true, Found);
-        self.saw_lookup_if(true, sort_of_count(found.len()));
+    fn saw_found(
+        &mut self,
+        table: &Table,
+        node: u8,
+        found: &[Lightpath],
+        was_closed: bool,
+        end: End,
+    ) {
+        self.saw(end(Found));
+        self.saw(end(sort_of_count(found.len())));
         if found.is_empty() {
-            self.saw_lookup_if(table.circuits().next().is_some(), NoCircuitOfSome);
+            self.saw_if(table.circuits().next().is_some(), end(NoCircuitOfSome));
             return;
         }
         let is_full = found.len() == table.ports_at(node) as usize;
         let one_of_two =
             |old: &Lightpath| matches!(table.channels[old.place.index()], Channel::Two(..));
         let was_moved = found.iter().any(|old| self.moved.contains(&old.circuit.number));
-        let was_closed = self.closed_from.contains(&node);
-        self.saw_lookup_if(found.windows(2).any(|two| two[1].place < two[0].place), PlaceFalls);
-        self.saw_lookup_if(found.len() > 1 && is_full, EveryPort);
-        self.saw_lookup_if(found.len() == usize::from(NODE_PORTS_MOST), MostCircuits);
-        self.saw_lookup_if(node == table.nodes, LastNode);
-        self.saw_lookup_if(table.nodes == NODES_MOST, LargestRing);
-        self.saw_lookup_if(found.iter().any(one_of_two), OneOfTwo);
-        self.saw_lookup_if(was_moved, AfterMove);
-        self.saw_lookup_if(was_closed, AfterClosing);
+        self.saw_if(found.windows(2).any(|two| two[1].place < two[0].place), end(PlaceFalls));
+        self.saw_if(found.len() > 1 && is_full, end(EveryPort));
+        self.saw_if(found.len() == usize::from(NODE_PORTS_MOST), end(MostCircuits));
+        self.saw_if(node == table.nodes, end(LastNode));
+        self.saw_if(table.nodes == NODES_MOST, end(LargestRing));
+        self.saw_if(found.iter().any(one_of_two), end(OneOfTwo));
+        self.saw_if(was_moved, end(AfterMove));
+        self.saw_if(was_closed, end(AfterClosing));
     }
 
-    fn saw_lookup_if(&mut self, stands: bool, event: LookupEvent) {
-        self.saw_if(stands, Event::Lookup(event));
+    /// Counts a list of all nodes.
+    pub(super) fn saw_nodes(&mut self, nodes: &[NodeUse]) {
+        let has_circuit = nodes.iter().any(|node| node.sends > 0);
+        let takes = |node: &NodeUse| {
+            let ports = node.ports as usize;
+            (node.sends == ports, node.receives == ports)
+        };
+        let is_changed = !self.moved.is_empty() || !self.closed_from.is_empty();
+        self.saw(Event::Nodes(Listed));
+        self.saw_if(!has_circuit, Event::Nodes(NoneOnRing));
+        let is_largest = nodes.len() == usize::from(NODES_MOST);
+        self.saw_if(is_largest && has_circuit, Event::Nodes(OfLargestRing));
+        self.saw_if(nodes.iter().any(|node| node.ports == 0), Event::Nodes(WithoutPort));
+        let senders_taken = nodes.iter().any(|node| takes(node) == (true, false));
+        self.saw_if(senders_taken, Event::Nodes(SendersTaken));
+        let receivers_taken = nodes.iter().any(|node| takes(node) == (false, true));
+        self.saw_if(receivers_taken, Event::Nodes(ReceiversTaken));
+        self.saw_if(is_changed, Event::Nodes(AfterChange));
     }
 }
 
@@ -127,20 +221,25 @@ fn sort_of_count(count: usize) -> LookupEvent {
 /// The sort of a lookup that is not well formed.
 pub(super) fn sort_of_odd_lookup(line: &[u8]) -> Option<Event> {
     let words: Vec<&[u8]> = words(line).collect();
-    let event = match words[..] {
-        [b"from"] => NoNode,
-        [b"from", node] if node.iter().all(u8::is_ascii_digit) => WideNode,
-        [b"from", _] => OddNode,
-        [b"from", ..] => WordAfter,
+    let (first, others) = words.split_first()?;
+    let end: End = match *first {
+        b"from" => Event::Lookup,
+        b"to" => Event::Received,
+        b"nodes" if !others.is_empty() => return Some(Event::Nodes(NodesWordAfter)),
         _ => return None,
     };
-    Some(Event::Lookup(event))
+    Some(end(match others {
+        [] => NoNode,
+        [node] if node.iter().all(u8::is_ascii_digit) => WideNode,
+        [_] => OddNode,
+        _ => WordAfter,
+    }))
 }
 
-/// The event in words.
-pub(super) fn write(f: &mut fmt::Formatter, event: LookupEvent) -> fmt::Result {
+/// The event in words, after the line's first word.
+pub(super) fn write(f: &mut fmt::Formatter, first: &str, event: LookupEvent) -> fmt::Result {
     f.write_str(match event {
-        Found => "from",
+        Found => return f.write_str(first),
         NoCircuit => "  of these: no circuit",
         NoCircuitOfSome => "  of these: no circuit, though other nodes have some",
         OneCircuit => "  of these: one circuit",
@@ -153,13 +252,29 @@ pub(super) fn write(f: &mut fmt::Formatter, event: LookupEvent) -> fmt::Result {
         OneOfTwo => "  of these: a circuit is one of two at its place",
         AfterMove => "  of these: a circuit was moved before",
         AfterClosing => "  of these: with a circuit, and one of the node was closed before",
-        Refused(number) => return write!(f, "from refused {number}"),
+        Refused(number) => return write!(f, "{first} refused {number}"),
         RefusedZero => "  of these: node 0",
         RefusedNext => "  of these: node N + 1",
         RefusedWidest => "  of these: node 255",
-        NoNode => "line refused: from without a node",
-        WordAfter => "line refused: from with a word after the node",
-        OddNode => "line refused: from with a node that has a sign or is no number",
-        WideNode => "line refused: from with a node above 255",
+        NoNode => return write!(f, "line refused: {first} without a node"),
+        WordAfter => return write!(f, "line refused: {first} with a word after the node"),
+        OddNode => {
+            return write!(f, "line refused: {first} with a node that has a sign or is no number")
+        }
+        WideNode => return write!(f, "line refused: {first} with a node above 255"),
+    })
+}
+
+/// The event of a list of all nodes in words.
+pub(super) fn write_nodes(f: &mut fmt::Formatter, event: NodesEvent) -> fmt::Result {
+    f.write_str(match event {
+        Listed => "nodes",
+        NoneOnRing => "  of these: no circuit",
+        OfLargestRing => "  of these: 64 nodes, with a circuit",
+        WithoutPort => "  of these: a node has no port",
+        SendersTaken => "  of these: every transmitter of a node is taken, not every receiver",
+        ReceiversTaken => "  of these: every receiver of a node is taken, not every transmitter",
+        AfterChange => "  of these: a circuit was moved or closed before",
+        NodesWordAfter => "line refused: nodes with a word after it",
     })
 }

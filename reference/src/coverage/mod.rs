@@ -17,7 +17,7 @@ use crate::table::Table;
 
 pub use event::{Event, PLAN_EVENTS, SCRIPT_EVENTS};
 pub use grid::{grid_events, GridEvent, LineFault, Off, Way};
-pub use lookup::{LookupEvent, LOOKUP_EVENTS};
+pub use lookup::{LookupEvent, NodesEvent, LOOKUP_EVENTS, NODES_EVENTS, RECEIVED_EVENTS};
 pub use tidying::{TidyingEvent, TIDYING_EVENTS};
 
 #[derive(Clone, PartialEq, Eq, Debug)]
@@ -31,6 +31,8 @@ pub struct Coverage {
     moved: BTreeSet<u32>,
     /// The nodes from which a circuit was closed on the present table.
     closed_from: BTreeSet<u8>,
+    /// The nodes to which one was closed.
+    closed_to: BTreeSet<u8>,
     /// Whether a tidying has joined circuits on the present table.
     is_tidied: bool,
 }
@@ -45,6 +47,7 @@ impl Coverage {
             counts: BTreeMap::new(),
             moved: BTreeSet::new(),
             closed_from: BTreeSet::new(),
+            closed_to: BTreeSet::new(),
             is_tidied: false,
         }
     }
@@ -57,10 +60,16 @@ impl Coverage {
     fn events(&self) -> Vec<Event> {
         match self.program {
             Program::Script => SCRIPT_EVENTS.to_vec(),
-            Program::Plan => {
-                [&SCRIPT_EVENTS[..], &PLAN_EVENTS, &LOOKUP_EVENTS, &TIDYING_EVENTS, &grid_events()]
-                    .concat()
-            }
+            Program::Plan => [
+                &SCRIPT_EVENTS[..],
+                &PLAN_EVENTS,
+                &LOOKUP_EVENTS,
+                &RECEIVED_EVENTS,
+                &NODES_EVENTS,
+                &TIDYING_EVENTS,
+                &grid_events(),
+            ]
+            .concat(),
         }
     }
 
@@ -82,6 +91,7 @@ impl Coverage {
     fn saw_new_table(&mut self) {
         self.moved.clear();
         self.closed_from.clear();
+        self.closed_to.clear();
         self.is_tidied = false;
     }
 

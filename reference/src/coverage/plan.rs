@@ -68,9 +68,11 @@ impl Coverage {
                 self.saw_if(circuits.is_empty(), CircuitsNone);
                 self.saw_accounts_shown(table, CircuitsWithAccount, CircuitsAfterMove);
             }
-            (Answer::From { .. } | Answer::FromRefused(_), Some(table)) => {
+            (Answer::From { .. } | Answer::FromRefused(_), Some(table))
+            | (Answer::To { .. } | Answer::ToRefused(_), Some(table)) => {
                 self.saw_lookup(line, answer, table);
             }
+            (Answer::Nodes(nodes), _) => self.saw_nodes(nodes),
             _ => unreachable!("there is no such answer without a table"),
         }
     }
@@ -176,6 +178,8 @@ fn sort_before_table(command: &Command) -> Event {
         Command::Ask(Question::Link { .. }) => RefusedBeforeTable("link"),
         Command::Ask(Question::Circuits) => RefusedBeforeTable("circuits"),
         Command::Ask(Question::From { .. }) => RefusedBeforeTable("from"),
+        Command::Ask(Question::To { .. }) => RefusedBeforeTable("to"),
+        Command::Ask(Question::Nodes) => RefusedBeforeTable("nodes"),
     }
 }
 

@@ -53,7 +53,9 @@ impl Coverage {
             Answer::Closed { number } => {
                 self.saw(Closed);
                 self.moved.remove(&number);
-                self.closed_from.extend(before.circuit(number).map(|closed| closed.source));
+                let closed = before.circuit(number);
+                self.closed_from.extend(closed.map(|closed| closed.source));
+                self.closed_to.extend(closed.map(|closed| closed.destination));
                 let left_one_alone = table.map_or(0, shared_places) < before.shared_places();
                 self.saw_if(left_one_alone, ClosedOneOfTwo);
             }

@@ -1,10 +1,11 @@
 //! Lookups by node: of nodes with several circuits, one or none, of nodes off the ring, and such
-//! lines spoilt.
+//! lines spoilt; and lists of all nodes.
 
 use super::opened::opened;
 use super::plan_lines::read;
 use super::traffic::{any_node, off_ring, some_of};
 use super::{Generator, Kind};
+use crate::circuit::Circuit;
 use crate::form::form_of;
 use crate::random::Random;
 use crate::table::Table;
@@ -13,6 +14,7 @@ impl Generator {
     pub(super) fn lookup_line(&mut self) -> Vec<u8> {
         match self.random.below(100) {
             0..=24 => self.bad_lookup_line(),
+            28..=45 => b"nodes".to_vec(),
             25..=27 if self.kind == Kind::Mixed => self.read_to_look_up(),
             _ => {
                 let line = self.lookup();
@@ -21,13 +23,14 @@ impl Generator {
         }
     }
 
-    /// The form of a ring with few nodes that send many circuits each; the line after it looks one
+    /// The form of a ring with few nodes that have many circuits each; the line after it looks one
     /// of them up.
     fn read_to_look_up(&mut self) -> Vec<u8> {
         let nodes = *self.random.pick(&[3, 3, 4, 6]);
         let circuits = *self.random.pick(&[192, 192, 191, 150]);
         let node = self.random.between(1, usize::from(nodes));
-        self.following = Some(format!("from {node}").into_bytes());
+        let end = end(&mut self.random);
+        self.following = Some(format!("{} {node}", end.word()).into_bytes());
         read(&form_of(&opened(nodes, circuits, &mut self.random)))
     }
 
@@ -35,26 +38,29 @@ impl Generator {
     pub(super) fn lookup(&mut self) -> Vec<u8> {
         let before_any_ring = Table::blank();
         let table = self.planner.table().unwrap_or(&before_any_ring);
+        let end = end(&mut self.random);
         let node = if self.random.percent(25) {
             off_ring(table, &mut self.random)
         } else {
-            node_on_ring(table, &mut self.random)
+            node_on_ring(table, end, &mut self.random)
         };
-        format!("from {node}").into_bytes()
+        format!("{} {node}", end.word()).into_bytes()
     }
 
     /// A lookup that is refused, whatever its node is.
     fn bad_lookup_line(&mut self) -> Vec<u8> {
-        let mut line = self.lookup();
-        let node = line.split_off(b"from ".len());
-        let node = String::from_utf8(node).expect("the node has digits only");
-        let word = match self.random.below(20) {
-            0 | 1 => return b"from".to_vec(),
+        let line = String::from_utf8(self.lookup()).expect("the line has letters and digits only");
+        let (first, node) = line.split_once(' ').expect("the line has two words");
+        let node = node.to_string();
+        let mut line = format!("{first} ").into_bytes();
+        let word = match self.random.below(22) {
+            0 | 1 => return first.as_bytes().to_vec(),
+            20 | 21 => return format!("nodes {node}").into_bytes(),
             2..=4 => node + *self.random.pick(&[" 0", " 1", " 1 2", " x", " circuits", " -"]),
             5..=9 => odd_node(&node, &mut self.random),
             10..=15 => wide_node(&node, &mut self.random),
             16 | 17 => {
-                let others = ["From", "FROM", "fro", "froms", "form", "to", "circuit"];
+                let others = ["From", "TO", "fro", "froms", "form", "too", "node", "circuit"];
                 return format!("{} {node}", self.random.pick(&others)).into_bytes();
             }
             _ => {
@@ -67,16 +73,45 @@ impl Generator {
     }
 }
 
-/// Any node of the ring, or one that sends no circuit, one, or several, if there is such a node.
-fn node_on_ring(table: &Table, random: &mut Random) -> u8 {
-    let sent = |node: u8| table.circuits().filter(|circuit| circuit.source == node).count();
+/// The end of circuits at which a node is looked up.
+#[derive(Clone, Copy)]
+enum End {
+    Source,
+    Destination,
+}
+
+impl End {
+    /// The first word of a line that looks a node up at this end.
+    fn word(self) -> &'static str {
+        match self {
+            End::Source => "from",
+            End::Destination => "to",
+        }
+    }
+
+    fn node(self, circuit: Circuit) -> u8 {
+        match self {
+            End::Source => circuit.source,
+            End::Destination => circuit.destination,
+        }
+    }
+}
+
+fn end(random: &mut Random) -> End {
+    *random.pick(&[End::Source, End::Destination])
+}
+
+/// Any node of the ring, or one with no circuit at this end, one, or several, if there is such a
+/// node.
+fn node_on_ring(table: &Table, end: End, random: &mut Random) -> u8 {
+    let at = |node: u8| table.circuits().filter(|&circuit| end.node(circuit) == node).count();
     let wanted = match random.below(8) {
         0 => 0..=0,
         1 => 1..=1,
         2..=5 => 2..=usize::MAX,
         _ => 0..=usize::MAX,
     };
-    let nodes: Vec<u8> = (1..=table.nodes).filter(|&node| wanted.contains(&sent(node))).collect();
+    let nodes: Vec<u8> = (1..=table.nodes).filter(|&node| wanted.contains(&at(node))).collect();
     some_of(&nodes, random).unwrap_or_else(|| any_node(table, random))
 }
 

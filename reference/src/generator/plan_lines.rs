@@ -38,7 +38,7 @@ impl Generator {
             67..=77 => self.grid_line(),
             78 => b"tidy".to_vec(),
             79 | 80 => self.read_to_tidy(),
-            81..=88 => self.lookup_line(),
+            81..=91 => self.lookup_line(),
             _ => self.bad_plan_line(),
         }
     }
