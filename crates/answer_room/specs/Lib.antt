@@ -1,3 +1,2 @@
--- The room that the answer to a line takes, and what running a line asks for and promises.
+-- The room that the answer to a line takes.
 pub mod Room
-pub mod Line

@@ -21,26 +21,31 @@ use Rattle.text.specs.Signed.{signed}
 use Rattle.words.specs.Split.{words, sameText}
 use Rattle.words.specs.Parse.{byWord, given, field, givenSigned, signedField, atEnd}
 use Rattle.commands.specs.declared.Command.{Command}
-use Rattle.commands.specs.declared.Command.the-variants.{Read, ReadFile, Write, WriteFile, Load, Link, Circuits, Show, Frequency, Wavelength, Tidy, From, To, Nodes, Desk}
+use Rattle.commands.specs.declared.Command.the-variants.{Read, ReadFile, Ask, Frequency, Wavelength, Tidy, From, Desk}
+use Rattle.commands.specs.declared.Question.{Question}
+use Rattle.commands.specs.declared.Question.the-variants.{Write, WriteFile, Load, Link, Circuits, Show, To, Nodes}
 use Rattle.commands.specs.Command.{longestCommand, lastAt, byFirst, readCommand, writeCommand, linkCommand, gridCommand, nodeCommand, kinds, commandWords, commandOf}
 use Rattle.commands.proofs.Last.{last-within}
 
 -- where it begins is at most n
+abbrev Starts : ℕ → Question → Type 0
+Starts n Write = Unit {0}
+Starts n (WriteFile s) = s ≤ n
+Starts n Load = Unit {0}
+Starts n (Link link wavelength direction) = Unit {0}
+Starts n Circuits = Unit {0}
+Starts n Show = Unit {0}
+Starts n (To node) = Unit {0}
+Starts n Nodes = Unit {0}
+
 abbrev Begins : ℕ → Command → Type 0
 Begins n (Read s) = s ≤ n
 Begins n (ReadFile s) = s ≤ n
-Begins n Write = Unit {0}
-Begins n (WriteFile s) = s ≤ n
-Begins n Load = Unit {0}
-Begins n (Link link wavelength direction) = Unit {0}
-Begins n Circuits = Unit {0}
-Begins n Show = Unit {0}
+Begins n (Ask q) = Starts n q
 Begins n (Frequency spacing start wavelength) = Unit {0}
 Begins n (Wavelength spacing start frequency) = Unit {0}
 Begins n Tidy = Unit {0}
 Begins n (From node) = Unit {0}
-Begins n (To node) = Unit {0}
-Begins n Nodes = Unit {0}
 Begins n Desk = Unit {0}
 
 -- each part of the definition keeps that
@@ -116,13 +121,13 @@ module _ (l : List ℕ) where
         (
           begins-write ws,
           (
-            end Load tt,
+            end (Ask Load) tt,
             (
               begins-link ws,
               (
-                end Circuits tt,
+                end (Ask Circuits) tt,
                 (
-                  end Show tt,
+                  end (Ask Show) tt,
                   (
                     begins-grid Frequency (λ s z k. tt) ws,
                     (
@@ -132,9 +137,9 @@ module _ (l : List ℕ) where
                         (
                           begins-node From (λ k. tt) ws,
                           (
-                            begins-node To (λ k. tt) ws,
+                            begins-node (λ k. Ask (To k)) (λ k. tt) ws,
                             (
-                              end Nodes tt,
+                              end (Ask Nodes) tt,
                               tt,
                             ),
                           ),
@@ -166,7 +171,7 @@ module _ (l : List ℕ) (r : Command) (s : ℕ) (e : r ≡ commandOf l) where
   pub file-begins : r ≡ ReadFile s → s ≤ length l
   file-begins k = rw (← e, k) at (begins l)
 
-  pub path-begins : r ≡ WriteFile s → s ≤ length l
-  path-begins k = rw (← e, k) at (begins l)
+  pub path-begins : (q : Question) → r ≡ Ask q → q ≡ WriteFile s → s ≤ length l
+  path-begins q k i = rw (← e, k, i) at (begins l)
 
 pub ruleset beginning = (read-begins, file-begins, path-begins)

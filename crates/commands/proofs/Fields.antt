@@ -14,7 +14,8 @@ use Rattle.words.specs.Split.{otherWords}
 use Rattle.words.specs.Parse.{atEnd}
 use Rattle.words.proofs.Split.{words-next}
 use Rattle.commands.specs.declared.Command.{Command}
-use Rattle.commands.specs.declared.Command.the-variants.{Read as readForm, ReadFile, Write, WriteFile, Frequency, Wavelength, From, To, Desk}
+use Rattle.commands.specs.declared.Command.the-variants.{Read as readForm, ReadFile, Ask, Frequency, Wavelength, From, Desk}
+use Rattle.commands.specs.declared.Question.the-variants.{Write, WriteFile, To}
 use Rattle.commands.specs.Command.{lastAt, byFirst, readCommand, writeCommand, wayAsked, endAsked}
 
 -- which way is asked of the grid, with a start that the machine keeps as bits
@@ -27,7 +28,7 @@ module _ (back : Bool) (s : ℕ) (z : ℤ) (fits : SFits w32 z) (k : ℕ) where
 
 -- which end is asked of a node
 module _ (to : Bool) (node : ℕ) where
-  pub asks-to : to ≡ true → To node ≡ endAsked to node
+  pub asks-to : to ≡ true → Ask (To node) ≡ endAsked to node
   asks-to h = rw h
 
   pub asks-from : to ≡ false → From node ≡ endAsked to node
@@ -60,11 +61,11 @@ module _ (b : List ℕ) (at start : ℕ) (e : start ≡ lastAt b (otherWords (dr
   unfolding readCommand
   read-word k = k ∙ rw (add-one start, e)
 
-  pub write-word : at < length b → x ≡ byFirst b start (WriteFile (start + 1)) Desk → x ≡ writeCommand b (otherWords (drop at b))
+  pub write-word : at < length b → x ≡ byFirst b start (Ask (WriteFile (start + 1))) Desk → x ≡ writeCommand b (otherWords (drop at b))
   unfolding writeCommand
   write-word h k = k ∙ rw (add-one start, e, words-next b at h)
 
-pub write-alone : (b : List ℕ) (at : ℕ) → length b ≤ at → Write ≡ writeCommand b (otherWords (drop at b))
+pub write-alone : (b : List ℕ) (at : ℕ) → length b ≤ at → Ask Write ≡ writeCommand b (otherWords (drop at b))
 unfolding writeCommand
 write-alone b at h = rw (drop-of-length-le b h)
 

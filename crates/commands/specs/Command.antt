@@ -11,7 +11,8 @@ use Rattle.basis.specs.Choice.{pick}
 use Rattle.words.specs.Split.{words}
 use Rattle.words.specs.Parse.{byWord, field, signedField, atEnd}
 use Rattle.commands.specs.declared.Command.{Command}
-use Rattle.commands.specs.declared.Command.the-variants.{Read, ReadFile, Write, WriteFile, Load, Link, Circuits, Show, Frequency, Wavelength, Tidy, From, To, Nodes, Desk}
+use Rattle.commands.specs.declared.Command.the-variants.{Read, ReadFile, Ask, Frequency, Wavelength, Tidy, From, Desk}
+use Rattle.commands.specs.declared.Question.the-variants.{Write, WriteFile, Load, Link, Circuits, Show, To, Nodes}
 
 -- of a form at most 4,096 bytes are read, from the digits of a word or from a file
 abbrev pub mostRead : ℕ
@@ -38,8 +39,8 @@ readCommand l ws = byFirst l (lastAt l ws) (ReadFile (suc (lastAt l ws))) (Read 
 
 -- `write`, or `write @PATH`
 unfoldable pub writeCommand : List ℕ → List (List ℕ) → Command
-writeCommand l [] = Write
-writeCommand l (w ∷ ws) = byFirst l (lastAt l (w ∷ ws)) (WriteFile (suc (lastAt l (w ∷ ws)))) Desk
+writeCommand l [] = Ask Write
+writeCommand l (w ∷ ws) = byFirst l (lastAt l (w ∷ ws)) (Ask (WriteFile (suc (lastAt l (w ∷ ws))))) Desk
 
 -- `link LINK WAVELENGTH DIRECTION`: "the three numbers may have 64 bits"
 unfoldable pub linkCommand : List (List ℕ) → Command
@@ -47,7 +48,7 @@ linkCommand ws =
     field Desk 64 ws (λ link ws.
     field Desk 64 ws (λ wavelength ws.
     field Desk 64 ws (λ direction ws.
-    atEnd Desk ws (Link link wavelength direction))))
+    atEnd Desk ws (Ask (Link link wavelength direction)))))
 
 -- `frequency SPACING START WAVELENGTH` or `wavelength SPACING START FREQUENCY` (02, E3): the first and the last number have 32 bits, and
 -- START is signed with 32
@@ -69,24 +70,24 @@ nodeCommand asked ws = field Desk 8 ws (λ node ws. atEnd Desk ws (asked node))
 
 -- the circuits to the node, or from it
 abbrev pub endAsked : Bool → ℕ → Command
-endAsked true = To
-endAsked false = From
+endAsked true node = Ask (To node)
+endAsked false node = From node
 
 -- the lines by their first word, and what the other words lead to
 abbrev pub kinds : List ℕ → List (List ℕ) → List (String × Command)
 kinds l ws =
     ("read", readCommand l ws)
     ∷ ("write", writeCommand l ws)
-    ∷ ("load", atEnd Desk ws Load)
+    ∷ ("load", atEnd Desk ws (Ask Load))
     ∷ ("link", linkCommand ws)
-    ∷ ("circuits", atEnd Desk ws Circuits)
-    ∷ ("show", atEnd Desk ws Show)
+    ∷ ("circuits", atEnd Desk ws (Ask Circuits))
+    ∷ ("show", atEnd Desk ws (Ask Show))
     ∷ ("frequency", gridCommand Frequency ws)
     ∷ ("wavelength", gridCommand Wavelength ws)
     ∷ ("tidy", atEnd Desk ws Tidy)
     ∷ ("from", nodeCommand From ws)
-    ∷ ("to", nodeCommand To ws)
-    ∷ ("nodes", atEnd Desk ws Nodes)
+    ∷ ("to", nodeCommand (λ node. Ask (To node)) ws)
+    ∷ ("nodes", atEnd Desk ws (Ask Nodes))
     ∷ []
 
 -- a line by its words: the first says which it is

@@ -17,10 +17,8 @@ pub const MOST_READ: usize = 4096;
 // The most bytes of a line: it has room for the digits of as many, but for its first word.
 pub const LONGEST_COMMAND: usize = 2 * MOST_READ;
 
-// What a line asks for: one of these, or what the order desk makes of it. A form or a path begins at a position of the line.
-pub enum Command {
-    Read(usize),
-    ReadFile(usize),
+// What is asked of the table, which stays as it is.
+pub enum Question {
     Write,
     WriteFile(usize),
     Load,
@@ -31,6 +29,17 @@ pub enum Command {
     },
     Circuits,
     Show,
+    To {
+        node: u8,
+    },
+    Nodes,
+}
+
+// What a line asks for: one of these, or what the order desk makes of it. A form or a path begins at a position of the line.
+pub enum Command {
+    Read(usize),
+    ReadFile(usize),
+    Ask(Question),
     Frequency {
         spacing: u32,
         start: i32,
@@ -45,10 +54,6 @@ pub enum Command {
     From {
         node: u8,
     },
-    To {
-        node: u8,
-    },
-    Nodes,
     Desk,
 }
 
@@ -114,10 +119,15 @@ fn parse_write(line: &[u8], at: usize) -> Command
     ensures { λ r. ⌜ r ≡ writeCommand (now (line .entry)) (otherWords (drop at (now (line .entry)))) ⌝ }
 {
     if line.len() <= at {
-        return Command::Write;
+        return Command::Ask(Question::Write);
     }
     let start = last_word(line, at);
-    by_first(line, start, Command::WriteFile(start + 1), Command::Desk)
+    by_first(
+        line,
+        start,
+        Command::Ask(Question::WriteFile(start + 1)),
+        Command::Desk,
+    )
 }
 
 // `link LINK WAVELENGTH DIRECTION`, after its first word.
@@ -136,11 +146,11 @@ fn parse_link(line: &[u8], at: usize) -> Command
     at_end(
         line,
         end,
-        Command::Link {
+        Command::Ask(Question::Link {
             link,
             wavelength,
             direction,
-        },
+        }),
     )
 }
 
@@ -184,7 +194,7 @@ fn node_command(to: bool, node: u8) -> Command
     ensures { λ r. ⌜ r ≡ endAsked to node ⌝ }
 {
     if to {
-        return Command::To { node };
+        return Command::Ask(Question::To { node });
     }
     Command::From { node }
 }
@@ -215,16 +225,16 @@ pub fn parse_command(line: &[u8]) -> Command
     match kind {
         0 => parse_read(line, end),
         1 => parse_write(line, end),
-        2 => at_end(line, end, Command::Load),
+        2 => at_end(line, end, Command::Ask(Question::Load)),
         3 => parse_link(line, end),
-        4 => at_end(line, end, Command::Circuits),
-        5 => at_end(line, end, Command::Show),
+        4 => at_end(line, end, Command::Ask(Question::Circuits)),
+        5 => at_end(line, end, Command::Ask(Question::Show)),
         6 => parse_grid(line, end, false),
         7 => parse_grid(line, end, true),
         8 => at_end(line, end, Command::Tidy),
         9 => parse_node(line, end, false),
         10 => parse_node(line, end, true),
-        11 => at_end(line, end, Command::Nodes),
+        11 => at_end(line, end, Command::Ask(Question::Nodes)),
         _ => Command::Desk,
     }
 }

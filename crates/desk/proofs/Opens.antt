@@ -1,10 +1,13 @@
 -- Demand 3 in what an opening prints, for every desk whose table meets the ring rules. Assumes nothing.
-use Prim.Native.Nat.{ℕ}
-use mathlib.Core.Path.{_≡_, refl, ap}
+use Prim.Native.Nat.{ℕ, _+_, _≤_}
+use mathlib.Core.Path.{_≡_, refl, ap, _∙_}
+use mathlib.Core.Logic.{_↔_}
 use mathlib.Core.Bool.{true, false}
-use mathlib.Core.List.{List, append-nil}
+use mathlib.Core.List.{List, _++_, append-nil}
 use native.Mathlib.Omega.{arith}
-use lib.ListN.{length}
+use lib.ListN.{length, take, drop, length-append}
+use lib.Seq.{slice, sets-eq, take-at, drop-at, length-take-le}
+use Rattle.buffer.specs.Put.{Put}
 use Rattle.lightpath.specs.declared.Circuit.{Circuit}
 use Rattle.moves.specs.Records.{listed}
 use Rattle.refusals.specs.Answer.{refusal, someGiven}
@@ -17,8 +20,8 @@ use Rattle.ring.specs.declared.Opening.{Opening}
 use Rattle.ring.specs.declared.Opening.the-variants.{Taken as taken, Refused as notOpened}
 use Rattle.ring.proofs.Demand.{demand3, answered}
 use Rattle.print.specs.Answers.{refusedLine, openLine}
-use Rattle.desk.specs.Desk.{Desk, DeskState, deskOf, runOpen, CanRun}
-use Rattle.desk.specs.Demand3.{Refuses, Serves, Opens}
+use Rattle.desk.specs.Desk.{Desk, DeskState, Ran, deskOf, Keeps, Outcome, runOpen, runLine, CanRun, HasRun}
+use Rattle.desk.specs.Demand3.{Refuses, Serves, OpensBy, Opens, leftBy}
 
 -- an opening that answers by a refusal prints its number
 refusal-line : (n m : ℕ) (a : Opening) → openingAnswer a ≡ refusal m → openLine n a ≡ refusedLine n m
@@ -57,13 +60,37 @@ module _ (d : Desk) (c : Circuit) (ready : d .ready ≡ true) (rules : meetsRule
       let q : Refused3 (d .table) c 3 (decision .opened) (listed (decision .moves)) = demand3 (d .table) c 3 rules .refused g in
       record { desk = rw (ready, q .table); text = rw (ready, q .none, append-nil) (refusal-line (c .number) _ (decision .opened .answer) (q .answer)) }
 
+  -- the tables are equal exactly when there is a reason
+  equal : (runOpen d c .desk .table ≡ d .table) ↔ (someGiven (reasons (d .table) c 3) ≡ true)
+  unfolding runOpen
+  equal = rw ready (demand3 (d .table) c 3 rules .equal)
+
+  opens-by : OpensBy d c (runOpen d c)
+  opens-by = record { equal = equal; refuses = refuses; serves = serves }
+
+-- a text stands where it was put
+put-text : (l text l′ : List ℕ) (at next : ℕ) → Put l at text l′ next → next ≤ length l → slice at next l′ ≡ text
+put-text l text l′ at next p h =
+    let room : at + length text ≤ length l = omega (arith, p .end) in
+    let long : length (take at l) ≡ at = length-take-le at l (omega arith) in
+    let both : length (take at l ++ text) ≡ next = length-append (take at l) text ∙ omega (arith, long, p .end) in
+    rw (p .is, sets-eq text l at room, take-at (take at l ++ text) (drop (at + length text) l) next both) (drop-at (take at l) text at long)
+
+-- what a line left is its outcome
+pub left-is : (o : Outcome) (l : List ℕ) (at : ℕ) (keys rests l′ : List ℕ) (r : Ran) → deskOf (r .desk) keys rests ≡ o .desk → Put l at (o .text) l′ (r .next)
+    → r .next ≤ length l → leftBy at keys rests l′ r ≡ o
+left-is o l at keys rests l′ r e p h i = record { desk = e i; text = put-text l (o .text) l′ at (r .next) p h i }
+
 -- each line that asks for an opening
-pub opens : (d : DeskState) (keys rests line l : List ℕ) (at : ℕ) → CanRun d keys rests l at → Opens (deskOf d keys rests) line
-opens d keys rests line l at s =
-    record {
-      serves = λ c e ready g. rw e (serves (deskOf d keys rests) c ready (meets ready) g);
-      refuses = λ c e ready g. rw e (refuses (deskOf d keys rests) c ready (meets ready) g);
-    }
+pub line-opens : (d : DeskState) (keys rests line : List ℕ) → Keeps d keys rests → Opens (deskOf d keys rests) line (runLine (deskOf d keys rests) line)
+line-opens d keys rests line keeps = record { each = λ c e ready. rw e (opens-by (deskOf d keys rests) c ready (meets ready)) }
   where
     meets : d .ready ≡ true → meetsRules (deskOf d keys rests .table) ≡ true
-    meets h = rw h (s .keeps .held h .holds .rules)
+    meets h = rw h (keeps .held h .holds .rules)
+
+-- and what it left
+pub opens : (d : DeskState) (keys rests line l : List ℕ) (at : ℕ) (keys′ rests′ l′ : List ℕ) (r : Ran) → CanRun d keys rests l at
+    → HasRun (runLine (deskOf d keys rests) line) l at keys′ rests′ l′ r → Opens (deskOf d keys rests) line (leftBy at keys′ rests′ l′ r)
+opens d keys rests line l at keys′ rests′ l′ r s h =
+    rw (left-is (runLine (deskOf d keys rests) line) l at keys′ rests′ l′ r (h .desk) (h .text .put) (omega (arith, h .text .short, s .room)))
+    (line-opens d keys rests line (s .keeps))

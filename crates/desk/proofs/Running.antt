@@ -26,6 +26,7 @@ use Rattle.roster_open.specs.InPlace.{OpensIn, ClosesIn}
 use Rattle.roster_open.specs.declared.OpenedIn.{OpenedIn}
 use Rattle.roster_open.specs.declared.ClosedIn.{ClosedIn}
 use Rattle.requests.specs.declared.Request.{Request}
+use Rattle.requests.specs.declared.Request.the-variants.{Bad}
 use Rattle.requests.specs.declared.Line.{Line}
 use Rattle.requests.specs.Line.{parseLine}
 use Rattle.buffer.specs.Put.{Printed}
@@ -47,7 +48,7 @@ pub keeps-held : (t : RingTable) (h : Heading) (keys rests : List ℕ) → Holds
 keeps-held t h keys rests H = record { held = λ e. held-again t h keys rests H; blank = λ e. let z : _≡_ {A = ℕ} 0 1 = cc in absurd (omega arith); longKeys = held-long t h keys rests H .0; longRests = held-long t h keys rests H .1 }
 
 -- and is the desk's
-desk-held : (t : RingTable) (h : Heading) (keys rests : List ℕ) → HoldsTable t h keys rests → deskOf (record { heading = h; ready = true }) keys rests ≡ deskWith t
+pub desk-held : (t : RingTable) (h : Heading) (keys rests : List ℕ) → HoldsTable t h keys rests → deskOf (record { heading = h; ready = true }) keys rests ≡ deskWith t
 desk-held t h keys rests H = let e = held-table t h keys rests H in λ i. record { ready = true; table = e i }
 
 module _ (d : DeskState) (keys rests l : List ℕ) (at : ℕ) (s : CanRun d keys rests l at) where
@@ -63,10 +64,6 @@ module _ (d : DeskState) (keys rests l : List ℕ) (at : ℕ) (s : CanRun d keys
 
   pub run-rests : length rests ≡ mostCircuits
   run-rests = s .keeps .longRests
-
-  -- and is the desk's
-  ready-table : d .ready ≡ true → deskOf d keys rests .table ≡ tableIn (d .heading) keys rests
-  ready-table h = rw h
 
   module _ (l′ : List ℕ) (r : Ran) (q : (r .desk ≡ d) × Printed answerRoom l at lineRefused l′ (r .next)) where
     pub refused-line : HasRun (refuse (deskOf d keys rests)) l at keys rests l′ r
@@ -117,16 +114,15 @@ module _ (d : DeskState) (keys rests l : List ℕ) (at : ℕ) (s : CanRun d keys
     unfolding runRing
     not-ringed r h = record { desk = rw (← k, h); text = rw (← k, ← i) (wider (omega arith) p); keeps = s .keeps }
 
--- the lists are as long as they were
-pub held-keys-long : (t : RingTable) (h : Heading) (keys rests k₀ : List ℕ) → length k₀ ≡ mostCircuits → HoldsTable t h keys rests → length keys ≡ length k₀
-held-keys-long t h keys rests k₀ e H = held-long t h keys rests H .0 ∙ sym e
-
-pub held-rests-long : (t : RingTable) (h : Heading) (keys rests r₀ : List ℕ) → length r₀ ≡ mostCircuits → HoldsTable t h keys rests → length rests ≡ length r₀
-held-rests-long t h keys rests r₀ e H = held-long t h keys rests H .1 ∙ sym e
-
 pub ruleset running = (run-room, run-held, run-keys, run-rests, refused-line, refused-open, refused-close, opened, closed, ring-meets, ringed, not-ringed)
 
 -- the request that the line was parsed as
 pub line-run : (line : List ℕ) (p : Line) (q : Request) (d : Desk) (l : List ℕ) (at : ℕ) (keys rests l′ : List ℕ) (r : Ran)
     → p ≡ parseLine line → p .request ≡ q → HasRun (run d q (p .ports)) l at keys rests l′ r → HasRun (runLine d line) l at keys rests l′ r
 line-run line p q d l at keys rests l′ r k i m = rw (← k, i) m
+
+-- a line that asks for nothing is refused
+pub bad-run : (d : DeskState) (keys rests line l : List ℕ) (at : ℕ) (p : Line) (l′ : List ℕ) (r : Ran) → CanRun d keys rests l at → p ≡ parseLine line
+    → p .request ≡ Bad → (r .desk ≡ d) × Printed answerRoom l at lineRefused l′ (r .next) → HasRun (runLine (deskOf d keys rests) line) l at keys rests l′ r
+bad-run d keys rests line l at p l′ r s k i q =
+    line-run line p Bad (deskOf d keys rests) l at keys rests l′ r k i (refused-line d keys rests l at s l′ r q)

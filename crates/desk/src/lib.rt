@@ -6,7 +6,7 @@ ghost use lib.ListN.{length};
 ghost use Rattle.buffer.specs.Put.{Printed};
 ghost use Rattle.print.specs.Answers.{lineRefused};
 ghost use Rattle.desk.specs.Desk.{answerRoom, deskOf, CanRun, HasRun, runRing, runOpen, runClose, runLine};
-ghost use Rattle.desk.specs.Demand3.{Opens};
+ghost use Rattle.desk.specs.Demand3.{Opens, leftBy};
 use lightpath::Circuit;
 use limits::LEAST_RECORDS;
 use print::OPENING_ROOM;
@@ -140,7 +140,7 @@ pub fn run_line(
 ) -> Ran
     requires { ⌜ CanRun desk (now keys) (now rests) (now out) at ⌝ }
     ensures answer { λ r. ⌜ HasRun (runLine (deskOf desk (now (keys .entry)) (now (rests .entry))) (now (line .entry))) (now (out .entry)) at (now (keys .exit)) (now (rests .exit)) (now (out .exit)) r ⌝ }
-    ensures demand3 { λ r. ⌜ Opens (deskOf desk (now (keys .entry)) (now (rests .entry))) (now (line .entry)) ⌝ }
+    ensures demand3 { λ r. ⌜ Opens (deskOf desk (now (keys .entry)) (now (rests .entry))) (now (line .entry)) (leftBy at (now (keys .exit)) (now (rests .exit)) (now (out .exit)) r) ⌝ }
 {
     let parsed = requests::parse_line(line);
     let request = parsed.request;

@@ -1,3 +1,2 @@
--- The laws of the planner's lines: what answers them, and the script's among them.
+-- The laws of the planner's lines: what answers them.
 mod Lines
-pub mod Script

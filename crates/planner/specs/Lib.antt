@@ -1,4 +1,2 @@
--- What a question of the table asks for, what a tidying makes of it, and what is printed of a node's row.
+-- What a question of the table asks for and is answered.
 pub mod Asks
-pub mod Tidy
-pub mod From

@@ -1,15 +1,18 @@
-// What is asked of the table: its saved form, its loads, one link, its circuits, its picture.
+// What is asked of the table: its saved form, its loads, one link, its circuits, its picture, the circuits to a node, its nodes.
 
 ghost use Prim.Native.Nat.{_*_};
+ghost use lib.ListN.{length};
 ghost use Rattle.limits.specs.Limits.{mostNodes};
 ghost use Rattle.buffer.specs.Put.{Printed};
 ghost use Rattle.form.specs.Form.{formOf, longestForm};
 ghost use Rattle.load.specs.Load.{loads};
 ghost use Rattle.link_question.specs.Link.{linkOf};
-ghost use Rattle.inventory.specs.Lines.{formLine, formRoom, lengthRoom, loadLine, loadRoom, linkLine, linkRoom, circuitsText, circuitsRoom};
+ghost use Rattle.inventory.specs.Lines.{formLine, formRoom, loadLine, loadRoom, linkLine, linkRoom, circuitsText, circuitsRoom};
+ghost use Rattle.row_lines.specs.Lines.{fromRoom};
+ghost use Rattle.node_lines.specs.Lines.{toText, nodesText, nodesRoom};
 ghost use Rattle.buffer.specs.Appended.{Appended};
 ghost use Rattle.picture.specs.Room.{pictureRoom};
-ghost use Rattle.planner.specs.Asks.{Asks};
+ghost use Rattle.planner.specs.Asks.{Asks, FileWritten};
 use form::LONGEST_FORM;
 use load::MOST_LOADS;
 use ring::RingTable;
@@ -27,7 +30,7 @@ pub fn answer_write(table: RingTable, out: &mut [u8], at: usize) -> usize
 // `write @PATH`
 pub fn answer_write_file(table: RingTable, path: &[u8], out: &mut [u8], at: usize) -> usize
     requires { ⌜ Asks table (now out) at ⌝ }
-    ensures { λ r. ⌜ Appended lengthRoom (now (out .entry)) at (now (out .exit)) r ⌝ }
+    ensures { λ r. ⌜ FileWritten (length (formOf table)) (now (out .entry)) at (now (out .exit)) r ⌝ }
 {
     let mut form = [0u8; LONGEST_FORM];
     let length = saved_forms::form_of(table, &mut form);
@@ -79,4 +82,20 @@ pub fn answer_show(table: RingTable, out: &mut [u8], at: usize) -> usize
     ensures { λ r. ⌜ Appended pictureRoom (now (out .entry)) at (now (out .exit)) r ⌝ }
 {
     picture::put_picture(out, at, table)
+}
+
+// `to NODE`
+pub fn answer_to(table: RingTable, node: u8, out: &mut [u8], at: usize) -> usize
+    requires { ⌜ Asks table (now out) at ⌝ }
+    ensures { λ r. ⌜ Printed fromRoom (now (out .entry)) at (toText (table .nodes) (table .channels) node) (now (out .exit)) r ⌝ }
+{
+    node_lines::put_to(out, at, table, node)
+}
+
+// `nodes`
+pub fn answer_nodes(table: RingTable, out: &mut [u8], at: usize) -> usize
+    requires { ⌜ Asks table (now out) at ⌝ }
+    ensures { λ r. ⌜ Printed nodesRoom (now (out .entry)) at (nodesText (table .nodes) (table .ports) (table .channels)) (now (out .exit)) r ⌝ }
+{
+    node_lines::put_nodes(out, at, table)
 }

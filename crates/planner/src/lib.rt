@@ -3,20 +3,20 @@
 mod ask;
 
 ghost use mathlib.Core.Path.{_≡_};
-ghost use mathlib.Core.Bool.{true};
 ghost use Prim.Native.Nat.{_+_, _≤_};
 ghost use lib.ListN.{length};
-ghost use Rattle.roster.specs.Held.{tableIn};
 ghost use Rattle.commands.specs.Command.{longestCommand, commandOf};
-ghost use Rattle.desk.specs.Desk.{deskOf, runLine, HasRun};
-ghost use Rattle.buffer.specs.Appended.{Appended};
+ghost use Rattle.print.specs.Answers.{lineRefused};
+ghost use Rattle.row_lines.specs.Lines.{fromText};
+ghost use Rattle.desk.specs.Desk.{deskOf};
+ghost use Rattle.desk.specs.Demand3.{Opens, leftBy};
 ghost use Rattle.answer_room.specs.Room.{lineRoom};
-ghost use Rattle.answer_room.specs.Line.{CanAnswer, LineAnswered};
-ghost use Rattle.planner.specs.Asks.{Asks, OnlyAnswered};
-ghost use Rattle.planner.specs.Tidy.{HasTidied};
-ghost use Rattle.planner.specs.From.{HasLooked};
+ghost use Rattle.planner_lines.specs.Line.{says, ifReady, readWord, runTidy};
+ghost use Rattle.planner_lines.specs.Ran.{CanAnswer, LineAnswered, LineRun};
+ghost use Rattle.planner.specs.Asks.{Asks, Said, QuestionAnswered, QuestionRun};
 use commands::Command;
 use commands::MOST_READ;
+use commands::Question;
 use desk::DeskState;
 use desk::Ran;
 use grid::GridPlan;
@@ -27,7 +27,7 @@ use ring::RingTable;
 // Prints `line refused`, and nothing changes.
 fn refuse(desk: DeskState, out: &mut [u8], at: usize) -> Ran
     requires { ⌜ at + lineRoom ≤ length (now out) ⌝ }
-    ensures { λ r. ⌜ OnlyAnswered desk (now (out .entry)) at (now (out .exit)) r ⌝ }
+    ensures { λ r. ⌜ Said desk lineRefused (now (out .entry)) at (now (out .exit)) r ⌝ }
 {
     let next = print::put_line_refused(out, at);
     Ran { desk, next }
@@ -43,7 +43,7 @@ fn run_read(
     at: usize,
 ) -> Ran
     requires { ⌜ CanAnswer desk (now keys) (now rests) (now out) at × (length (now word) ≤ longestCommand) ⌝ }
-    ensures { λ r. ⌜ LineAnswered (now (out .entry)) at (now (keys .exit)) (now (rests .exit)) (now (out .exit)) r ⌝ }
+    ensures { λ r. ⌜ LineAnswered (readWord (deskOf desk (now (keys .entry)) (now (rests .entry))) (now (word .entry))) (now (out .entry)) at (now (keys .exit)) (now (rests .exit)) (now (out .exit)) r ⌝ }
 {
     let mut form = [0u8; MOST_READ];
     let digits = saved_forms::read_word(word, &mut form);
@@ -55,23 +55,24 @@ fn run_read(
     }
 }
 
-// The answer to a question of the table. A command that is none is refused.
-fn answer(table: RingTable, command: Command, line: &[u8], out: &mut [u8], at: usize) -> usize
-    requires { ⌜ Asks table (now out) at × (command ≡ commandOf (now line)) ⌝ }
-    ensures { λ r. ⌜ Appended lineRoom (now (out .entry)) at (now (out .exit)) r ⌝ }
+// The answer to a question of the table.
+fn answer(table: RingTable, question: Question, line: &[u8], out: &mut [u8], at: usize) -> usize
+    requires { ⌜ Asks table (now out) at × (Command.Ask question ≡ commandOf (now line)) ⌝ }
+    ensures { λ r. ⌜ QuestionAnswered table question (now (out .entry)) at (now (out .exit)) r ⌝ }
 {
-    match command {
-        Command::Write => ask::answer_write(table, out, at),
-        Command::WriteFile(start) => ask::answer_write_file(table, &line[start..], out, at),
-        Command::Load => ask::answer_load(table, out, at),
-        Command::Link {
+    match question {
+        Question::Write => ask::answer_write(table, out, at),
+        Question::WriteFile(start) => ask::answer_write_file(table, &line[start..], out, at),
+        Question::Load => ask::answer_load(table, out, at),
+        Question::Link {
             link,
             wavelength,
             direction,
         } => ask::answer_link(table, link, wavelength, direction, out, at),
-        Command::Circuits => ask::answer_circuits(table, out, at),
-        Command::Show => ask::answer_show(table, out, at),
-        _ => print::put_line_refused(out, at),
+        Question::Circuits => ask::answer_circuits(table, out, at),
+        Question::Show => ask::answer_show(table, out, at),
+        Question::To { node } => ask::answer_to(table, node, out, at),
+        Question::Nodes => ask::answer_nodes(table, out, at),
     }
 }
 
@@ -80,46 +81,27 @@ fn run_question(
     desk: DeskState,
     keys: &[u64],
     rests: &[u64],
-    command: Command,
+    question: Question,
     line: &[u8],
     out: &mut [u8],
     at: usize,
 ) -> Ran
-    requires { ⌜ CanAnswer desk (now keys) (now rests) (now out) at × (command ≡ commandOf (now line)) ⌝ }
-    ensures { λ r. ⌜ OnlyAnswered desk (now (out .entry)) at (now (out .exit)) r ⌝ }
+    requires { ⌜ CanAnswer desk (now keys) (now rests) (now out) at × (Command.Ask question ≡ commandOf (now line)) ⌝ }
+    ensures { λ r. ⌜ QuestionRun (deskOf desk (now (keys .entry)) (now (rests .entry))) question (now (out .entry)) at (now (keys .entry)) (now (rests .entry)) (now (out .exit)) r ⌝ }
 {
     if !desk.ready {
         return refuse(desk, out, at);
     }
     let heading = desk.heading;
     let table = roster::table_in(heading, keys, rests);
-    let next = answer(table, command, line, out, at);
-    Ran { desk, next }
-}
-
-// `frequency SPACING START WAVELENGTH`, which needs no table.
-fn run_frequency(desk: DeskState, plan: GridPlan, wavelength: u32, out: &mut [u8], at: usize) -> Ran
-    requires { ⌜ at + lineRoom ≤ length (now out) ⌝ }
-    ensures { λ r. ⌜ OnlyAnswered desk (now (out .entry)) at (now (out .exit)) r ⌝ }
-{
-    let next = lasers::answer_frequency(plan, wavelength, out, at);
-    Ran { desk, next }
-}
-
-// `wavelength SPACING START FREQUENCY`, which needs none either.
-fn run_wavelength(desk: DeskState, plan: GridPlan, frequency: u32, out: &mut [u8], at: usize) -> Ran
-    requires { ⌜ at + lineRoom ≤ length (now out) ⌝ }
-    ensures { λ r. ⌜ OnlyAnswered desk (now (out .entry)) at (now (out .exit)) r ⌝ }
-{
-    let next = lasers::answer_wavelength(plan, frequency, out, at);
+    let next = answer(table, question, line, out, at);
     Ran { desk, next }
 }
 
 // `tidy`, with 128 records lent, which is refused where there is no table.
 fn run_tidy(desk: DeskState, keys: &mut [u64], rests: &mut [u64], out: &mut [u8], at: usize) -> Ran
     requires { ⌜ CanAnswer desk (now keys) (now rests) (now out) at ⌝ }
-    ensures answer { λ r. ⌜ LineAnswered (now (out .entry)) at (now (keys .exit)) (now (rests .exit)) (now (out .exit)) r ⌝ }
-    ensures tidies { λ r. ⌜ (desk .ready ≡ true → HasTidied (tableIn (desk .heading) (now (keys .entry)) (now (rests .entry))) (now (out .entry)) at (now (keys .exit)) (now (rests .exit)) (now (out .exit)) r) ⌝ }
+    ensures { λ r. ⌜ LineAnswered (runTidy (deskOf desk (now (keys .entry)) (now (rests .entry)))) (now (out .entry)) at (now (keys .exit)) (now (rests .exit)) (now (out .exit)) r ⌝ }
 {
     if !desk.ready {
         return refuse(desk, out, at);
@@ -150,8 +132,7 @@ fn run_from(
     at: usize,
 ) -> Ran
     requires { ⌜ CanAnswer desk (now keys) (now rests) (now out) at ⌝ }
-    ensures answer { λ r. ⌜ OnlyAnswered desk (now (out .entry)) at (now (out .exit)) r ⌝ }
-    ensures looks { λ r. ⌜ (desk .ready ≡ true → HasLooked (tableIn (desk .heading) (now (keys .entry)) (now (rests .entry))) node (now (out .entry)) at (now (out .exit)) r) ⌝ }
+    ensures { λ r. ⌜ LineAnswered (ifReady (deskOf desk (now (keys .entry)) (now (rests .entry))) (says (deskOf desk (now (keys .entry)) (now (rests .entry))) (fromText (deskOf desk (now (keys .entry)) (now (rests .entry)) .table .nodes) (deskOf desk (now (keys .entry)) (now (rests .entry)) .table .channels) node))) (now (out .entry)) at (now (keys .entry)) (now (rests .entry)) (now (out .exit)) r ⌝ }
 {
     if !desk.ready {
         return refuse(desk, out, at);
@@ -172,8 +153,8 @@ pub fn run_line(
     at: usize,
 ) -> Ran
     requires { ⌜ CanAnswer desk (now keys) (now rests) (now out) at ⌝ }
-    ensures answer { λ r. ⌜ LineAnswered (now (out .entry)) at (now (keys .exit)) (now (rests .exit)) (now (out .exit)) r ⌝ }
-    ensures script { λ r. ⌜ (commandOf (now (line .entry)) ≡ Command.Desk → HasRun (runLine (deskOf desk (now (keys .entry)) (now (rests .entry))) (now (line .entry))) (now (out .entry)) at (now (keys .exit)) (now (rests .exit)) (now (out .exit)) r) ⌝ }
+    ensures answer { λ r. ⌜ LineRun (deskOf desk (now (keys .entry)) (now (rests .entry))) (now (line .entry)) (now (out .entry)) at (now (keys .exit)) (now (rests .exit)) (now (out .exit)) r ⌝ }
+    ensures demand3 { λ r. ⌜ Opens (deskOf desk (now (keys .entry)) (now (rests .entry))) (now (line .entry)) (leftBy at (now (keys .exit)) (now (rests .exit)) (now (out .exit)) r) ⌝ }
 {
     let command = commands::parse_command(line);
     match command {
@@ -181,19 +162,25 @@ pub fn run_line(
         Command::ReadFile(start) => {
             saved_forms::run_read_file(desk, keys, rests, &line[start..], out, at)
         }
+        Command::Ask(question) => run_question(desk, keys, rests, question, line, out, at),
         Command::Frequency {
             spacing,
             start,
             wavelength,
-        } => run_frequency(desk, GridPlan { spacing, start }, wavelength, out, at),
+        } => {
+            let next = lasers::answer_frequency(GridPlan { spacing, start }, wavelength, out, at);
+            Ran { desk, next }
+        }
         Command::Wavelength {
             spacing,
             start,
             frequency,
-        } => run_wavelength(desk, GridPlan { spacing, start }, frequency, out, at),
+        } => {
+            let next = lasers::answer_wavelength(GridPlan { spacing, start }, frequency, out, at);
+            Ran { desk, next }
+        }
         Command::Tidy => run_tidy(desk, keys, rests, out, at),
         Command::From { node } => run_from(desk, keys, rests, node, out, at),
         Command::Desk => desk::run_line(desk, keys, rests, line, out, at),
-        _ => run_question(desk, keys, rests, command, line, out, at),
     }
 }

@@ -2,14 +2,13 @@
 use Prim.Native.Nat.{ℕ, _+_, _≤_}
 use mathlib.Core.Bool.{false}
 use mathlib.Core.List.{List}
-use lib.ListN.{length, replicate}
+use lib.ListN.{length, take, replicate}
 use Rattle.limits.specs.Limits.{portFields}
 use Rattle.commands.specs.Command.{longestCommand}
-use Rattle.desk.specs.Desk.{Keeps}
+use Rattle.desk.specs.Desk.{deskOf, Keeps}
+use Rattle.script.specs.Bytes.{Script}
 use Rattle.answer_room.specs.Room.{lineRoom}
 use Rattle.ringplan.specs.declared.input.Held.{Held}
-use Rattle.ringplan.specs.declared.input.Spilled.{Spilled}
-use Rattle.ringplan.specs.declared.input.Spilled.the-variants.{At, Failed}
 
 -- a line's bytes, and one more by which a line is seen to be too long
 abbrev pub heldRoom : ℕ
@@ -22,11 +21,10 @@ pub record BetweenReads (h : Held) (keys rests line out : List ℕ) : Type 0 whe
   pub width : heldRoom ≤ length line
   pub room : lineRoom ≤ length out
 
+-- the desk, and the bytes of a line that has not ended
+abbrev pub scriptIn : Held → List ℕ → List ℕ → List ℕ → Script
+scriptIn h keys rests line = record { desk = deskOf (h .desk) keys rests; held = take (h .count) line }
+
 -- before the first byte
 abbrev pub startHeld : Held
 startHeld = record { desk = record { heading = record { ports = replicate portFields 0; nodes = 0; count = 0 }; ready = false }; count = 0 }
-
--- there is room for an answer at the position
-abbrev pub SpillRoom : List ℕ → Spilled → Type 0
-SpillRoom l (At n) = n + lineRoom ≤ length l
-SpillRoom l Failed = Unit {0}

@@ -3,8 +3,8 @@
 ghost use mathlib.Core.Path.{_≡_};
 ghost use Prim.Native.Nat.{_≤_};
 ghost use lib.ListN.{length};
-ghost use Rattle.answer_room.specs.Room.{lineRoom};
-ghost use Rattle.ringplan.specs.Plan.{BetweenReads, SpillRoom, startHeld};
+ghost use Rattle.ringplan.specs.Plan.{BetweenReads, scriptIn, startHeld};
+ghost use Rattle.ringplan.specs.Turn.{Took, TookIn};
 use commands::LONGEST_COMMAND;
 use desk::DeskState;
 use libc::STDOUT_FILENO;
@@ -20,7 +20,14 @@ pub struct Held {
     pub count: usize,
 }
 
-// What is held after some bytes, and whether every answer was written.
+// What is held after some bytes of a chunk, the position after them, and how many bytes their answers take at the start of the lent bytes.
+struct Fed {
+    held: Held,
+    taken: usize,
+    wrote: usize,
+}
+
+// What is held after a chunk, and whether every answer was written.
 pub struct Intake {
     pub held: Held,
     pub wrote: bool,
@@ -43,28 +50,55 @@ pub fn start() -> Held
     }
 }
 
-// The position for the next answer: where the room left is too little, what stands there is written first. Where that fails there is none.
-enum Spilled {
-    At(usize),
-    Failed,
-}
-
-// Makes room for an answer after position `at`.
-fn spill(out: &[u8], at: usize) -> Spilled
-    requires { ⌜ (at ≤ length (now out)) × (lineRoom ≤ length (now out)) ⌝ }
-    ensures { λ r. ⌜ SpillRoom (now (out .entry)) r ⌝ }
+// Takes a chunk's bytes in from a position on and runs the lines that end, until the room left is too little for another answer.
+fn feed(
+    held: Held,
+    keys: &mut [u64],
+    rests: &mut [u64],
+    line: &mut [u8],
+    chunk: &[u8],
+    start: usize,
+    out: &mut [u8],
+) -> Fed
+    requires { ⌜ BetweenReads held (now keys) (now rests) (now line) (now out) × (start ≤ length (now chunk)) ⌝ }
+    ensures { λ r. ⌜ Took (scriptIn held (now (keys .entry)) (now (rests .entry)) (now (line .entry))) (now (chunk .entry)) start (now (keys .exit)) (now (rests .exit)) (now (line .exit)) (now (out .exit)) r ⌝ }
 {
-    if answer_room::has_room(out.len() - at) {
-        return Spilled::At(at);
+    let mut desk = held.desk;
+    let mut count = held.count;
+    let mut at: usize = 0;
+    let mut i = start;
+    while i < chunk.len() {
+        let byte = chunk[i];
+        i += 1;
+        if byte == b'\n' {
+            let ran = planner::run_line(desk, keys, rests, &line[..count], out, at);
+            desk = ran.desk;
+            at = ran.next;
+            count = 0;
+            if answer_room::has_room(out.len() - at) {
+                continue;
+            }
+            return Fed {
+                held: Held { desk, count },
+                taken: i,
+                wrote: at,
+            };
+        }
+        if count < HELD_ROOM {
+            line[count] = byte;
+            count += 1;
+            continue;
+        }
     }
-    if io::write_all(STDOUT_FILENO, &out[..at]) {
-        return Spilled::At(0);
+    Fed {
+        held: Held { desk, count },
+        taken: i,
+        wrote: at,
     }
-    Spilled::Failed
 }
 
-// Takes bytes in, runs the lines that end and writes their answers.
-pub fn feed(
+// Takes a chunk in and writes its answers, until a write fails.
+pub fn take_in(
     held: Held,
     keys: &mut [u64],
     rests: &mut [u64],
@@ -73,41 +107,19 @@ pub fn feed(
     out: &mut [u8],
 ) -> Intake
     requires { ⌜ BetweenReads held (now keys) (now rests) (now line) (now out) ⌝ }
-    ensures { λ r. ⌜ BetweenReads (r .held) (now (keys .exit)) (now (rests .exit)) (now (line .exit)) (now (out .exit)) ⌝ }
+    ensures ready { λ r. ⌜ BetweenReads (r .held) (now (keys .exit)) (now (rests .exit)) (now (line .exit)) (now (out .exit)) ⌝ }
+    ensures answered { λ r. ⌜ TookIn (scriptIn held (now (keys .entry)) (now (rests .entry)) (now (line .entry))) (now (chunk .entry)) (scriptIn (r .held) (now (keys .exit)) (now (rests .exit)) (now (line .exit))) (r .wrote) ⌝ }
 {
-    let mut desk = held.desk;
-    let mut count = held.count;
-    let mut at: usize = 0;
-    let mut i: usize = 0;
-    while i < chunk.len() {
-        let byte = chunk[i];
-        i += 1;
-        if byte == b'\n' {
-            let ran = planner::run_line(desk, keys, rests, &line[..count], out, at);
-            desk = ran.desk;
-            count = 0;
-            match spill(out, ran.next) {
-                Spilled::At(next) => {
-                    at = next;
-                    continue;
-                }
-                Spilled::Failed => {
-                    return Intake {
-                        held: Held { desk, count },
-                        wrote: false,
-                    };
-                }
-            }
-        }
-        if count < HELD_ROOM {
-            line[count] = byte;
-            count += 1;
+    let mut held = held;
+    let mut taken: usize = 0;
+    while taken < chunk.len() {
+        let fed = feed(held, keys, rests, line, chunk, taken, out);
+        held = fed.held;
+        taken = fed.taken;
+        if io::write_all(STDOUT_FILENO, &out[..fed.wrote]) {
             continue;
         }
+        return Intake { held, wrote: false };
     }
-    let wrote = io::write_all(STDOUT_FILENO, &out[..at]);
-    Intake {
-        held: Held { desk, count },
-        wrote,
-    }
+    Intake { held, wrote: true }
 }

@@ -2,16 +2,19 @@
 mod input;
 
 ghost use mathlib.Core.Path.{_≡_};
+ghost use mathlib.Core.Bool.{true};
 ghost use Prim.Native.Nat.{_≤_};
 ghost use lib.ListN.{length, replicate};
 ghost use Rattle.limits.specs.Limits.{mostCircuits};
 ghost use Rattle.answer_room.specs.Room.{lineRoom};
-ghost use Rattle.ringplan.specs.Plan.{heldRoom, BetweenReads};
+ghost use Rattle.ringplan.specs.Plan.{heldRoom, BetweenReads, scriptIn};
+ghost use Rattle.ringplan.specs.Turn.{Reached, ReadOnce, Finished};
 use answer_room::LINE_ROOM;
 use input::HELD_ROOM;
 use input::Held;
 use libc::STDERR_FILENO;
 use libc::STDIN_FILENO;
+use libc::STDOUT_FILENO;
 use limits::MOST_CIRCUITS;
 
 // The bytes that answers are collected in: room for one of the most bytes and others before it.
@@ -41,8 +44,9 @@ fn read_once(
     line: &mut [u8],
     out: &mut [u8],
 ) -> Turn
-    requires { ⌜ BetweenReads held (now keys) (now rests) (now line) (now out) ⌝ }
-    ensures { λ r. ⌜ BetweenReads (r .held) (now (keys .exit)) (now (rests .exit)) (now (line .exit)) (now (out .exit)) ⌝ }
+    requires { ⌜ Reached held (now keys) (now rests) (now line) (now out) ⌝ }
+    ensures ready { λ r. ⌜ BetweenReads (r .held) (now (keys .exit)) (now (rests .exit)) (now (line .exit)) (now (out .exit)) ⌝ }
+    ensures read { λ r. ⌜ ReadOnce (scriptIn held (now (keys .entry)) (now (rests .entry)) (now (line .entry))) (scriptIn (r .held) (now (keys .exit)) (now (rests .exit)) (now (line .exit))) (r .next) ⌝ }
 {
     let mut buffer = [0u8; READ_SIZE];
     let got = libc::read(STDIN_FILENO, &mut buffer);
@@ -60,7 +64,7 @@ fn read_once(
             next: Next::Finish,
         };
     }
-    let fed = input::feed(held, keys, rests, line, &buffer[..count], out);
+    let fed = input::take_in(held, keys, rests, line, &buffer[..count], out);
     let held = fed.held;
     if fed.wrote {
         return Turn {
@@ -75,17 +79,16 @@ fn read_once(
     }
 }
 
-// Runs what is left when the input has ended.
-fn finish(held: Held, keys: &mut [u64], rests: &mut [u64], line: &mut [u8], out: &mut [u8])
-    requires { ⌜ BetweenReads held (now keys) (now rests) (now line) (now out) ⌝ }
+// Runs what is left when the input has ended. Gives whether its answer was written.
+fn finish(held: Held, keys: &mut [u64], rests: &mut [u64], line: &[u8], out: &mut [u8]) -> bool
+    requires { ⌜ Reached held (now keys) (now rests) (now line) (now out) ⌝ }
+    ensures { λ r. ⌜ (r ≡ true → Finished (scriptIn held (now (keys .entry)) (now (rests .entry)) (now (line .entry)))) ⌝ }
 {
     if held.count == 0 {
-        return;
+        return true;
     }
-    let fed = input::feed(held, keys, rests, line, b"\n", out);
-    if !fed.wrote {
-        io::write_all(STDERR_FILENO, b"ringplan: write failed\n");
-    }
+    let ran = planner::run_line(held.desk, keys, rests, &line[..held.count], out, 0);
+    io::write_all(STDOUT_FILENO, &out[..ran.next])
 }
 
 // Reads to the end of the input. A proved loop has to end, and nothing says that the input does: it counts its reads down from a
@@ -105,7 +108,9 @@ fn run(keys: &mut [u64], rests: &mut [u64], line: &mut [u8], out: &mut [u8])
                 continue;
             }
             Next::Finish => {
-                finish(held, keys, rests, line, out);
+                if !finish(held, keys, rests, line, out) {
+                    io::write_all(STDERR_FILENO, b"ringplan: write failed\n");
+                }
                 return;
             }
             Next::Stop => return,

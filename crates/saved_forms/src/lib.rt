@@ -6,7 +6,9 @@ ghost use Prim.Native.Nat.{_*_, _≤_};
 ghost use lib.ListN.{length};
 ghost use Rattle.ring.specs.Table.{meetsRules};
 ghost use Rattle.form.specs.Form.{longestForm};
-ghost use Rattle.answer_room.specs.Line.{CanAnswer, LineAnswered};
+ghost use Rattle.desk.specs.Desk.{deskOf};
+ghost use Rattle.planner_lines.specs.Line.{readForm};
+ghost use Rattle.planner_lines.specs.Ran.{CanAnswer, LineAnswered, FileAnswered};
 ghost use Rattle.saved_forms.specs.Saved.{FormIn, WordRead};
 use commands::MOST_READ;
 use desk::DeskState;
@@ -50,7 +52,7 @@ pub fn take_form(
     at: usize,
 ) -> Ran
     requires { ⌜ CanAnswer desk (now keys) (now rests) (now out) at ⌝ }
-    ensures { λ r. ⌜ LineAnswered (now (out .entry)) at (now (keys .exit)) (now (rests .exit)) (now (out .exit)) r ⌝ }
+    ensures { λ r. ⌜ LineAnswered (readForm (deskOf desk (now (keys .entry)) (now (rests .entry))) (now (form .entry))) (now (out .entry)) at (now (keys .exit)) (now (rests .exit)) (now (out .exit)) r ⌝ }
 {
     let read = decode::read(form);
     let table = read.table;
@@ -81,7 +83,7 @@ pub fn run_read_file(
     at: usize,
 ) -> Ran
     requires { ⌜ CanAnswer desk (now keys) (now rests) (now out) at ⌝ }
-    ensures { λ r. ⌜ LineAnswered (now (out .entry)) at (now (keys .exit)) (now (rests .exit)) (now (out .exit)) r ⌝ }
+    ensures { λ r. ⌜ FileAnswered (deskOf desk (now (keys .entry)) (now (rests .entry))) (now (out .entry)) at (now (keys .exit)) (now (rests .exit)) (now (out .exit)) r ⌝ }
 {
     let mut form = [0u8; MOST_READ];
     let read = files::read_file(path, &mut form);

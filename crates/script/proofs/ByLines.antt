@@ -28,7 +28,7 @@ run-cut : (d : Desk) (l : List ℕ) → runLine d (take mostHeld l) ≡ runLine 
 run-cut d l = rw (parse-cut l)
 
 -- bytes that are held up to a number, and others after them
-take-more : (n : ℕ) (l r : List ℕ) → take n (take n l ++ r) ≡ take n (l ++ r)
+pub take-more : (n : ℕ) (l r : List ℕ) → take n (take n l ++ r) ≡ take n (l ++ r)
 take-more zero l r = refl
 take-more (suc n) [] r = refl
 take-more (suc n) (x ∷ l) r = ap (λ (t : List ℕ). x ∷ t) (take-more n l r)

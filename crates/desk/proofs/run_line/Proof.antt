@@ -2,7 +2,7 @@
 use borrow.Author.Needs.{needs}
 use Rattle.requests.proofs.Few.{lending}
 use Rattle.desk.proofs.Opens.{opens}
-use Rattle.desk.proofs.Running.{line-run, refused-line}
+use Rattle.desk.proofs.Running.{line-run, bad-run}
 use Rattle.desk.proofs.run_line.Statement.{statement}
 use Rattle.desk.proofs.run_line.Tie as tie
 
@@ -79,7 +79,7 @@ same-length-10 : tie.Need-same-length-10
 same-length-10 c = search needs
 
 returns-4 : tie.Need-returns-4
-returns-4 c = search (needs, line-run, refused-line, opens)
+returns-4 c = search (needs, bad-run, opens)
 
 pub run-line-spec : {M : Type 1} → statement M
 run-line-spec =

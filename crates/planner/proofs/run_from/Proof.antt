@@ -1,8 +1,7 @@
 -- `planner::run_from` meets its contract. Assumes nothing.
 use borrow.Author.Needs.{needs}
 use Rattle.basis.proofs.Branch.{branch}
-use Rattle.buffer.proofs.Appending.{one-text}
-use Rattle.planner.proofs.Lines.{unready, held-entries}
+use Rattle.planner.proofs.Lines.{held-entries, unready-from, from-looked}
 use Rattle.planner.proofs.run_from.Statement.{statement}
 use Rattle.planner.proofs.run_from.Tie as tie
 
@@ -13,7 +12,7 @@ same-length : tie.Need-same-length
 same-length c = search needs
 
 returns : tie.Need-returns
-returns c = (search needs, λ k. absurd (search (needs, branch, unready)))
+returns c = search (needs, branch, unready-from)
 
 put-from-requires : tie.Need-put-from-requires
 put-from-requires c κs = (search needs, search (needs, branch, held-entries))
@@ -22,7 +21,7 @@ same-length-2 : tie.Need-same-length-2
 same-length-2 c = search needs
 
 returns-2 : tie.Need-returns-2
-returns-2 c = (search (needs, one-text), λ k. search needs)
+returns-2 c = search (needs, branch, from-looked)
 
 pub run-from-spec : {M : Type 1} → statement M
 run-from-spec =

@@ -2,7 +2,7 @@
 use borrow.Author.Needs.{needs}
 use Rattle.basis.proofs.Arrays.{lent-counted}
 use Rattle.saved_forms.proofs.Forms.{forms}
-use Rattle.planner.proofs.Lines.{only-answered}
+use Rattle.planner.proofs.Lines.{word-taken, word-bad}
 use Rattle.planner.proofs.run_read.Statement.{statement}
 use Rattle.planner.proofs.run_read.Tie as tie
 
@@ -40,13 +40,13 @@ same-length-3 : tie.Need-same-length-3
 same-length-3 c = search needs
 
 returns : tie.Need-returns
-returns c = search needs
+returns c = search (needs, word-taken)
 
 same-length-4 : tie.Need-same-length-4
 same-length-4 c = search needs
 
 returns-2 : tie.Need-returns-2
-returns-2 c = search (needs, only-answered)
+returns-2 c = search (needs, word-bad)
 
 pub run-read-spec : {M : Type 1} → statement M
 run-read-spec =

@@ -1,7 +1,7 @@
 -- `planner::run_tidy` meets its contract. Assumes nothing.
 use borrow.Author.Needs.{needs}
 use Rattle.basis.proofs.Branch.{branch}
-use Rattle.planner.proofs.Lines.{unready, only-answered, tidied, tidy-answered, tidy-tidied}
+use Rattle.planner.proofs.Lines.{tidied, unready-tidy, tidy-run}
 use Rattle.planner.proofs.run_tidy.Statement.{statement}
 use Rattle.planner.proofs.run_tidy.Tie as tie
 
@@ -12,7 +12,7 @@ same-length : tie.Need-same-length
 same-length c = search needs
 
 returns : tie.Need-returns
-returns c = (search (needs, only-answered), λ k. absurd (search (needs, branch, unready)))
+returns c = search (needs, branch, unready-tidy)
 
 table-in-requires : tie.Need-table-in-requires
 table-in-requires c κs = search (needs, branch, tidied)
@@ -42,7 +42,7 @@ returns-2 c =
     let decision = c .before .before .before .before .before .before .before .before .before .before .before .before .decide-tidy-valid .ensures .0 in
     let printed = c .before .before .before .before .before .before .before .before .before .put-tidying .ensures in
     let after = c .before .before .before .before .hold .ensures in
-    (tidy-answered _ _ _ _ _ start (search (needs, branch)) _ table _ decision _ _ _ _ _ after printed, λ k. tidy-tidied _ _ _ _ _ start k _ table _ decision _ _ _ _ _ after printed)
+    tidy-run _ _ _ _ _ start (search (needs, branch)) _ table _ decision _ _ _ _ _ after printed
 
 pub run-tidy-spec : {M : Type 1} → statement M
 run-tidy-spec =

@@ -1,7 +1,7 @@
 -- `saved_forms::run_read_file` meets its contract. Assumes nothing.
 use borrow.Author.Needs.{needs}
 use Rattle.basis.proofs.Arrays.{lent-counted}
-use Rattle.saved_forms.proofs.Forms.{forms}
+use Rattle.saved_forms.proofs.Forms.{forms, reading}
 use Rattle.saved_forms.proofs.run_read_file.Statement.{statement}
 use Rattle.saved_forms.proofs.run_read_file.Tie as tie
 
@@ -42,13 +42,13 @@ same-length-3 : tie.Need-same-length-3
 same-length-3 c = search needs
 
 returns : tie.Need-returns
-returns c = search needs
+returns c = search (needs, reading)
 
 same-length-4 : tie.Need-same-length-4
 same-length-4 c = search needs
 
 returns-2 : tie.Need-returns-2
-returns-2 c = search needs
+returns-2 c = search (needs, reading)
 
 pub run-read-file-spec : {M : Type 1} → statement M
 run-read-file-spec =

@@ -1,8 +1,7 @@
 -- `saved_forms::take_form` meets its contract. Assumes nothing.
 use borrow.Author.Needs.{needs}
-use Rattle.buffer.proofs.Appending.{one-text}
 use Rattle.form.proofs.Laws.{accepted-meets}
-use Rattle.desk.proofs.Running.{keeps-held}
+use Rattle.saved_forms.proofs.Forms.{reading}
 use Rattle.saved_forms.proofs.take_form.Statement.{statement}
 use Rattle.saved_forms.proofs.take_form.Tie as tie
 
@@ -34,13 +33,13 @@ same-length-3 : tie.Need-same-length-3
 same-length-3 c = search needs
 
 returns : tie.Need-returns
-returns c = search (needs, one-text, keeps-held)
+returns c = search (needs, reading)
 
 same-length-4 : tie.Need-same-length-4
 same-length-4 c = search needs
 
 returns-2 : tie.Need-returns-2
-returns-2 c = search needs
+returns-2 c = search (needs, reading)
 
 pub take-form-spec : {M : Type 1} → statement M
 take-form-spec =

@@ -1,50 +1,50 @@
--- `ringplan::input::feed` meets its contract: the table meets the rules, and there is room for a line and an answer. Assumes nothing.
+-- `ringplan::input::feed` meets its contract. The loop's invariant: of the chunk the bytes from the start position up to i are taken in, and what they
+-- print stands in the lent bytes up to `at`. Assumes nothing.
+use borrow.Author.Needs.{needs}
 use Prim.Native.Nat.{_-_}
 use lib.ListN.{length}
-use borrow.Author.Needs.{needs}
-use Rattle.ringplan.proofs.Feeding.{Feeding, feeding}
-use Rattle.basis.proofs.Arrays.{lent-counted}
+use Rattle.ringplan.specs.Plan.{scriptIn}
+use Rattle.ringplan.proofs.Feeding.{Feeding, feed-line, feeding}
 use Rattle.ringplan.proofs.input.feed.Statement.{statement}
 use Rattle.ringplan.proofs.input.feed.Tie as tie
 
 abbrev Inv-loop : tie.InvT-loop
-Inv-loop keys₀ rests₀ line₀ chunk out₀ desk₀ count₀ at₀ i₀ keys rests line out desk count at i = Feeding desk count keys₀ keys rests₀ rests line₀ line out₀ out at
+Inv-loop keys₀ rests₀ line₀ chunk start out₀ desk₀ count₀ at₀ i₀ keys rests line out desk count at i =
+    Feeding (scriptIn (record { desk = desk₀; count = count₀ }) keys₀ rests₀ line₀) chunk start desk count keys₀ keys rests₀ rests line₀ line out₀ out at i
 
 abbrev μ-loop : tie.MeasureT-loop
-μ-loop keys₀ rests₀ line₀ chunk out₀ desk₀ count₀ at₀ i₀ keys rests line out desk count at i = length chunk - i
+μ-loop keys₀ rests₀ line₀ chunk start out₀ desk₀ count₀ at₀ i₀ keys rests line out desk count at i = length chunk - i
 
 loop-holds : tie.Need-loop-holds Inv-loop μ-loop
 loop-holds c = search (needs, feeding)
 
 shared-slice-read-byte : tie.Need-shared-slice-read-byte Inv-loop μ-loop
-shared-slice-read-byte c = search (needs, feeding, lent-counted)
+shared-slice-read-byte c = search (needs, feeding)
 
 add-i : tie.Need-add-i Inv-loop μ-loop
-add-i c = search (needs, feeding, lent-counted)
+add-i c = search (needs, feeding)
 
 slice-reshare-prefix-run-line : tie.Need-slice-reshare-prefix-run-line Inv-loop μ-loop
-slice-reshare-prefix-run-line c = search (needs, feeding, lent-counted)
+slice-reshare-prefix-run-line c = search (needs, feeding)
 
 slice-aggregate-run-line : tie.Need-slice-aggregate-run-line Inv-loop μ-loop
-slice-aggregate-run-line c = search (needs, feeding, lent-counted)
+slice-aggregate-run-line c = search (needs, feeding)
 
 run-line-requires : tie.Need-run-line-requires Inv-loop μ-loop
 run-line-requires c κs = search (needs, feeding)
 
-spill-requires : tie.Need-spill-requires Inv-loop μ-loop
-spill-requires c κs = search (needs, feeding, lent-counted)
+sub-has-room : tie.Need-sub-has-room Inv-loop μ-loop
+sub-has-room c = search (needs, feeding)
 
-enum-known-next : tie.Need-enum-known-next Inv-loop μ-loop
-enum-known-next c = search (needs, feeding, lent-counted)
+has-room-requires : tie.Need-has-room-requires Inv-loop μ-loop
+has-room-requires c κs = search (needs, feeding)
 
 loop-less : tie.Need-loop-less Inv-loop μ-loop
-loop-less c = search (needs, feeding, lent-counted)
+loop-less c = search (needs, feeding)
 
 loop-again : tie.Need-loop-again Inv-loop μ-loop
-loop-again c = search (needs, feeding)
-
-enum-told : tie.Need-enum-told Inv-loop μ-loop
-enum-told c = search (needs, feeding, lent-counted)
+loop-again c =
+    feed-line _ _ _ _ _ _ _ _ _ _ _ _ _ _ _ (c .before .before .before .before .before .before .before .before .before .before .before .before .before .before .before .before .before .loop .inv) (search needs) _ _ _ _ (search needs) (c .before .before .before .before .before .before .before .before .before .run-line .ensures .0) _ (c .before .has-room .ensures) (search needs)
 
 same-length : tie.Need-same-length Inv-loop μ-loop
 same-length c = search (needs, feeding)
@@ -62,31 +62,22 @@ returns : tie.Need-returns Inv-loop μ-loop
 returns c = search (needs, feeding)
 
 slice-write-line : tie.Need-slice-write-line Inv-loop μ-loop
-slice-write-line c = search (needs, feeding, lent-counted)
+slice-write-line c = search (needs, feeding)
 
 add-count : tie.Need-add-count Inv-loop μ-loop
-add-count c = search (needs, feeding, lent-counted)
+add-count c = search (needs, feeding)
 
 loop-less-2 : tie.Need-loop-less-2 Inv-loop μ-loop
-loop-less-2 c = search (needs, feeding, lent-counted)
+loop-less-2 c = search (needs, feeding)
 
 loop-again-2 : tie.Need-loop-again-2 Inv-loop μ-loop
 loop-again-2 c = search (needs, feeding)
 
 loop-less-3 : tie.Need-loop-less-3 Inv-loop μ-loop
-loop-less-3 c = search (needs, feeding, lent-counted)
+loop-less-3 c = search (needs, feeding)
 
 loop-again-3 : tie.Need-loop-again-3 Inv-loop μ-loop
 loop-again-3 c = search (needs, feeding)
-
-slice-reshare-prefix-write-all : tie.Need-slice-reshare-prefix-write-all Inv-loop μ-loop
-slice-reshare-prefix-write-all c = search (needs, feeding, lent-counted)
-
-slice-aggregate-write-all : tie.Need-slice-aggregate-write-all Inv-loop μ-loop
-slice-aggregate-write-all c = search (needs, feeding, lent-counted)
-
-write-all-requires : tie.Need-write-all-requires Inv-loop μ-loop
-write-all-requires c κs = search (needs, feeding)
 
 same-length-5 : tie.Need-same-length-5 Inv-loop μ-loop
 same-length-5 c = search (needs, feeding)
@@ -115,11 +106,10 @@ feed-spec =
     slice-reshare-prefix-run-line
     slice-aggregate-run-line
     run-line-requires
-    spill-requires
-    enum-known-next
+    sub-has-room
+    has-room-requires
     loop-less
     loop-again
-    enum-told
     same-length
     same-length-2
     same-length-3
@@ -131,9 +121,6 @@ feed-spec =
     loop-again-2
     loop-less-3
     loop-again-3
-    slice-reshare-prefix-write-all
-    slice-aggregate-write-all
-    write-all-requires
     same-length-5
     same-length-6
     same-length-7

@@ -1,24 +1,27 @@
--- The script's three kinds of line are the order desk's here too. Assumes nothing.
-use Prim.Native.Nat.{ℕ, _≤_}
+-- The script's three kinds of line are the order desk's here too, and demand 3 holds of what an opening prints. Assumes nothing.
+use Prim.Native.Nat.{ℕ, _+_, _≤_}
 use mathlib.Core.Path.{_≡_, refl, sym, _∙_}
 use mathlib.Core.Bool.{Bool, true, false}
 use mathlib.Core.List.{List, [], _∷_}
 use native.Mathlib.Omega.{arith}
 use lib.Dec.{eqb, leb}
-use lib.IntN.{ℤ}
 use lib.ListN.{length}
-use denote.Enum.Declared.{tagOf}
-use types.Run.{OneOf, miss}
 use borrow.Author.Tests.{eqb-true, leb-true, le-leb}
 use Rattle.basis.proofs.Bools.{and-left, and-right}
 use Rattle.text.specs.Bytes.{bytes}
 use Rattle.words.specs.Split.{words, sameText}
-use Rattle.requests.specs.declared.Request.the-variants.{Bad}
+use Rattle.lightpath.specs.declared.Circuit.{Circuit}
+use Rattle.requests.specs.declared.Request.the-variants.{Open, Bad}
 use Rattle.requests.specs.Line.{longestLine, parseWords, parseLine}
-use Rattle.commands.specs.declared.Command.{Command}
-use Rattle.commands.proofs.Command.{the-type}
-use Rattle.commands.specs.declared.Command.the-variants.{Read, ReadFile, Frequency, Wavelength, Tidy, From, Desk}
+use Rattle.commands.specs.declared.Command.the-variants.{Desk}
 use Rattle.commands.specs.Command.{longestCommand, commandWords, commandOf}
+use Rattle.desk.specs.Desk.{Desk as DeskOf, deskOf, runLine}
+use Rattle.desk.specs.Demand3.{Opens, leftBy}
+use Rattle.desk.specs.declared.DeskState.{DeskState}
+use Rattle.desk.specs.declared.Ran.{Ran}
+use Rattle.desk.proofs.Opens.{left-is, line-opens}
+use Rattle.planner_lines.specs.Line.{Free, planLine}
+use Rattle.planner_lines.specs.Ran.{CanAnswer, LineRun}
 
 -- texts that are the same are one
 same-is : (a b : List ℕ) → sameText a b ≡ true → a ≡ b
@@ -59,32 +62,18 @@ script-line l n = go (leb (length l) longestLine) refl
         rw (le-leb (length l) longestCommand h) (by-words l (words l) (λ b. n (rw e b)))
     go false e = absurd (n (rw e))
 
--- the positions among the commands of those that are questions of the table
-abbrev questions : List ℕ
-questions = 2 ∷ 3 ∷ 4 ∷ 5 ∷ 6 ∷ 7 ∷ []
+-- so its outcome is the desk's
+pub script-outcome : (free : Free) (d : DeskOf) (l : List ℕ) → (parseLine l .request ≡ Bad → ⊥) → planLine free d l ≡ runLine d l
+unfolding planLine
+script-outcome free d l n = rw (script-line l n)
 
--- what is a command is no line for the desk
-module _ (l : List ℕ) (r : Command) (e : r ≡ commandOf l) (k : commandOf l ≡ Desk) where
-  pub not-read : (s : ℕ) → r ≡ Read s → ⊥
-  not-read s h = let z : _≡_ {A = ℕ} 0 1 = cc in omega arith
+-- a line that asks for an opening is none that asks for nothing
+asks-some : (l : List ℕ) (c : Circuit) → parseLine l .request ≡ Open c → parseLine l .request ≡ Bad → ⊥
+asks-some l c e k = let i : Open c ≡ Bad = sym e ∙ k in let z : _≡_ {A = ℕ} 0 1 = cc in omega arith
 
-  pub not-read-file : (s : ℕ) → r ≡ ReadFile s → ⊥
-  not-read-file s h = let z : _≡_ {A = ℕ} 0 1 = cc in omega arith
-
-  pub not-frequency : (s : ℕ) (z : ℤ) (w : ℕ) → r ≡ Frequency s z w → ⊥
-  not-frequency s z w h = let i : Frequency s z w ≡ Desk = sym h ∙ e ∙ k in let one : _≡_ {A = ℕ} 0 1 = cc in omega arith
-
-  pub not-wavelength : (s : ℕ) (z : ℤ) (f : ℕ) → r ≡ Wavelength s z f → ⊥
-  not-wavelength s z f h = let i : Wavelength s z f ≡ Desk = sym h ∙ e ∙ k in let one : _≡_ {A = ℕ} 0 1 = cc in omega arith
-
-  pub not-tidy : r ≡ Tidy → ⊥
-  not-tidy h = let i : Tidy ≡ Desk = sym h ∙ e ∙ k in let one : _≡_ {A = ℕ} 0 1 = cc in omega arith
-
-  pub not-from : (n : ℕ) → r ≡ From n → ⊥
-  not-from n h = let i : From n ≡ Desk = sym h ∙ e ∙ k in let one : _≡_ {A = ℕ} 0 1 = cc in omega arith
-
-  -- nor is a question: by its position
-  pub not-question : OneOf questions (tagOf the-type r) → ⊥
-  not-question o = let i : r ≡ Desk = e ∙ k in let p : OneOf questions (tagOf the-type Desk) = rw i at o in miss questions (tagOf the-type Desk) tt p
-
-pub ruleset commands = (not-read, not-read-file, not-frequency, not-wavelength, not-tidy, not-from)
+-- demand 3 of what an opening leaves and prints
+pub plan-opens : (d : DeskState) (keys rests line l : List ℕ) (at : ℕ) (keys′ rests′ l′ : List ℕ) (r : Ran) → CanAnswer d keys rests l at
+    → LineRun (deskOf d keys rests) line l at keys′ rests′ l′ r → Opens (deskOf d keys rests) line (leftBy at keys′ rests′ l′ r)
+plan-opens d keys rests line l at keys′ rests′ l′ r s h =
+    rw (left-is (planLine (h .free) (deskOf d keys rests) line) l at keys′ rests′ l′ r (h .ran .desk) (h .ran .text .put) (omega (arith, h .ran .text .short, s .room)))
+    (record { each = λ c e ready. rw (script-outcome (h .free) (deskOf d keys rests) line (asks-some line c e)) (line-opens d keys rests line (s .keeps) .each c e ready) })
