@@ -78,8 +78,9 @@ unfolding linesAfter
 led-last {input} q = rw (append-nil input) at (q .rest [])
 
 -- the end of the input, where no line is held
-pub ends-none : (s : Script) → s .held ≡ [] → Finished s
-ends-none s e = record { text = []; desk = s .desk; prints = λ h. let q = led h in go _ _ (q .lines) (q .w) (led-last q) (q .runs) (q .held) }
+pub ends-none : (s : Script) (out : List ℕ) → s .held ≡ [] → Finished s out 0
+ends-none s out e =
+    record { within = omega arith; desk = s .desk; prints = λ h. let q = led h in go _ _ (q .lines) (q .w) (led-last q) (q .runs) (q .held) }
   where
     go : (input output : List ℕ) (lines : List (List ℕ)) (w : List ℕ) → linesAfter [] input ≡ lines ++ lastLine w → Runs emptyDesk lines output (s .desk)
         → s .held ≡ take heldRoom w → Runs emptyDesk (linesAfter [] input) (output ++ []) (s .desk)
@@ -87,12 +88,13 @@ ends-none s e = record { text = []; desk = s .desk; prints = λ h. let q = led h
     go input output lines (x ∷ w) i r k = absurd (omega (arith, ap length e, ap length k))
 
 -- and where one is, it is run like any other
-pub ends-line : (s : Script) (free : Free) → length (free .content) ≤ mostRead → (s .held ≡ [] → ⊥) → Finished s
-ends-line s free few n =
+pub ends-line : (s : Script) (out : List ℕ) (wrote : ℕ) (free : Free) → length (free .content) ≤ mostRead → (s .held ≡ [] → ⊥) → wrote ≤ length out
+    → take wrote out ≡ planLine free (s .desk) (s .held) .text → Finished s out wrote
+ends-line s out wrote free few n b e =
     record {
-      text = planLine free (s .desk) (s .held) .text;
+      within = b;
       desk = planLine free (s .desk) (s .held) .desk;
-      prints = λ h. let q = led h in go _ _ (q .lines) (q .w) (led-last q) (q .runs) (q .held);
+      prints = λ h. let q = led h in rw e (go _ _ (q .lines) (q .w) (led-last q) (q .runs) (q .held));
     }
   where
     go : (input output : List ℕ) (lines : List (List ℕ)) (w : List ℕ) → linesAfter [] input ≡ lines ++ lastLine w → Runs emptyDesk lines output (s .desk)

@@ -1,5 +1,5 @@
 -- A chunk taken in part by part, a turn of the program's loop, and the end of the input. Assumes nothing.
-use Prim.Native.Nat.{ℕ, _+_, _-_, _≤_, _<_}
+use Prim.Native.Nat.{ℕ, _-_, _≤_, _<_}
 use mathlib.Core.Path.{_≡_, refl, sym, ap, _∙_}
 use mathlib.Core.Bool.{Bool, true, false}
 use mathlib.Core.List.{List, [], _++_}
@@ -19,9 +19,9 @@ use Rattle.ringplan.specs.declared.input.Fed.{Fed}
 use Rattle.ringplan.specs.declared.Next.{Next}
 use Rattle.ringplan.specs.declared.Next.the-variants.{Read, Finish, Stop}
 use Rattle.ringplan.specs.Plan.{heldRoom, BetweenReads, scriptIn, startHeld}
-use Rattle.ringplan.specs.Input.{Takes, nothing}
-use Rattle.ringplan.specs.Turn.{Took, Answered, TookIn, Reached, AfterRead, ReadOnce, Finished}
-use Rattle.ringplan.proofs.Takings.{takes-then, slice-then}
+use Rattle.ringplan.specs.Input.{nothing}
+use Rattle.ringplan.specs.Turn.{Took, Answered, TookIn, Reached, ReadOnce, Finished}
+use Rattle.ringplan.proofs.Takings.{takes-then, slice-then, put-more}
 use Rattle.ringplan.proofs.ByLines.{ends-none, ends-line}
 
 -- the chunk's first bytes are taken in and answered
@@ -160,20 +160,30 @@ module _ (h : Held) (keys rests line out : List ℕ) (q : Reached h keys rests l
   pub end-runs : CanAnswer (h .desk) keys rests out 0
   end-runs = record { keeps = q .ready .keeps; room = q .ready .room }
 
-  pub end-none : h .count ≡ 0 → Finished (scriptIn h keys rests line)
-  end-none e = ends-none (scriptIn h keys rests line) (rw e)
+  pub end-none : h .count ≡ 0 → Finished (scriptIn h keys rests line) out 0
+  end-none e = ends-none (scriptIn h keys rests line) out (rw e)
 
   module _ (keys1 rests1 out1 : List ℕ) (r : Ran) (a : LineRun (deskOf (h .desk) keys rests) (take (h .count) line) out 0 keys1 rests1 out1 r) where
-    pub end-written : r .next ≤ length out1
-    end-written = omega (arith, a .ran .text .short, q .ready .room, put-length (a .ran .text .put))
-
     pub end-keys : length keys1 ≡ length keys
     end-keys = a .ran .keeps .longKeys ∙ sym (q .ready .keeps .longKeys)
 
     pub end-rests : length rests1 ≡ length rests
     end-rests = a .ran .keeps .longRests ∙ sym (q .ready .keeps .longRests)
 
-    pub end-line : (h .count ≡ 0 → ⊥) → Finished (scriptIn h keys rests line)
-    end-line n = ends-line (scriptIn h keys rests line) (a .free) (a .few) (λ e. n (lent-counted line (h .count) end-within ∙ ap length e))
+    pub end-line : (h .count ≡ 0 → ⊥) → Finished (scriptIn h keys rests line) out1 (r .next)
+    end-line n =
+        ends-line (scriptIn h keys rests line) out1 (r .next) (a .free) (a .few) (λ e. n (lent-counted line (h .count) end-within ∙ ap length e))
+        (omega (arith, a .ran .text .short, q .ready .room, put-length (a .ran .text .put)))
+        (put-more out _ out1 0 (r .next) (a .ran .text .put) (omega (arith, a .ran .text .short, q .ready .room)))
 
-pub ruleset ending = (end-within, end-runs, end-none, end-written, end-keys, end-rests, end-line, lent-counted)
+pub ruleset ending = (end-within, end-runs, end-none, end-keys, end-rests, end-line, lent-counted)
+
+-- what a caller that writes it out has to show: the lent bytes have as many
+module _ (s : Script) (out : List ℕ) (wrote : ℕ) (f : Finished s out wrote) where
+  pub finished-within : wrote ≤ length out
+  finished-within = f .within
+
+  pub finished-counted : wrote ≡ length (take wrote out)
+  finished-counted = lent-counted out wrote (f .within)
+
+pub ruleset finishing = (finished-within, finished-counted)

@@ -51,9 +51,9 @@ pub record ReadOnce (s t : Script) (next : Next) : Type 0 where
   pub chunk : List ℕ
   pub is : AfterRead s chunk t next
 
--- the end of the input was answered: with what was printed to the input before it, all of its lines were run, one after the other, and printed
--- what was printed
-pub record Finished (s : Script) : Type 0 where
-  pub text : List ℕ
+-- the end of the input was taken in, and what it prints stands at the start of the lent bytes: after what was printed to the input before it, what
+-- was printed is what all lines of the input print, run one after the other
+pub record Finished (s : Script) (out : List ℕ) (wrote : ℕ) : Type 0 where
+  pub within : wrote ≤ length out
   pub desk : Desk
-  pub prints : {input output : List ℕ} → Takes startScript input output s → Runs emptyDesk (linesAfter [] input) (output ++ text) desk
+  pub prints : {input output : List ℕ} → Takes startScript input output s → Runs emptyDesk (linesAfter [] input) (output ++ take wrote out) desk

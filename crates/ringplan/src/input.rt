@@ -4,7 +4,7 @@ ghost use mathlib.Core.Path.{_≡_};
 ghost use Prim.Native.Nat.{_≤_};
 ghost use lib.ListN.{length};
 ghost use Rattle.ringplan.specs.Plan.{BetweenReads, scriptIn, startHeld};
-ghost use Rattle.ringplan.specs.Turn.{Took, TookIn};
+ghost use Rattle.ringplan.specs.Turn.{Took, TookIn, Reached, Finished};
 use commands::LONGEST_COMMAND;
 use desk::DeskState;
 use libc::STDOUT_FILENO;
@@ -122,4 +122,16 @@ pub fn take_in(
         return Intake { held, wrote: false };
     }
     Intake { held, wrote: true }
+}
+
+// Runs the line that is held when the input has ended. Gives how many bytes its answer takes at the start of the lent bytes.
+pub fn finish(held: Held, keys: &mut [u64], rests: &mut [u64], line: &[u8], out: &mut [u8]) -> usize
+    requires { ⌜ Reached held (now keys) (now rests) (now line) (now out) ⌝ }
+    ensures { λ r. ⌜ Finished (scriptIn held (now (keys .entry)) (now (rests .entry)) (now (line .entry))) (now (out .exit)) r ⌝ }
+{
+    if held.count == 0 {
+        return 0;
+    }
+    let ran = planner::run_line(held.desk, keys, rests, &line[..held.count], out, 0);
+    ran.next
 }

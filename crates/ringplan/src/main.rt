@@ -2,13 +2,12 @@
 mod input;
 
 ghost use mathlib.Core.Path.{_≡_};
-ghost use mathlib.Core.Bool.{true};
 ghost use Prim.Native.Nat.{_≤_};
 ghost use lib.ListN.{length, replicate};
 ghost use Rattle.limits.specs.Limits.{mostCircuits};
 ghost use Rattle.answer_room.specs.Room.{lineRoom};
 ghost use Rattle.ringplan.specs.Plan.{heldRoom, BetweenReads, scriptIn};
-ghost use Rattle.ringplan.specs.Turn.{Reached, ReadOnce, Finished};
+ghost use Rattle.ringplan.specs.Turn.{Reached, ReadOnce};
 use answer_room::LINE_ROOM;
 use input::HELD_ROOM;
 use input::Held;
@@ -79,16 +78,12 @@ fn read_once(
     }
 }
 
-// Runs what is left when the input has ended. Gives whether its answer was written.
-fn finish(held: Held, keys: &mut [u64], rests: &mut [u64], line: &[u8], out: &mut [u8]) -> bool
+// Runs the line that is held when the input has ended, and gives whether its answer was written.
+fn end_input(held: Held, keys: &mut [u64], rests: &mut [u64], line: &[u8], out: &mut [u8]) -> bool
     requires { ⌜ Reached held (now keys) (now rests) (now line) (now out) ⌝ }
-    ensures { λ r. ⌜ (r ≡ true → Finished (scriptIn held (now (keys .entry)) (now (rests .entry)) (now (line .entry)))) ⌝ }
 {
-    if held.count == 0 {
-        return true;
-    }
-    let ran = planner::run_line(held.desk, keys, rests, &line[..held.count], out, 0);
-    io::write_all(STDOUT_FILENO, &out[..ran.next])
+    let wrote = input::finish(held, keys, rests, line, out);
+    io::write_all(STDOUT_FILENO, &out[..wrote])
 }
 
 // Reads to the end of the input. A proved loop has to end, and nothing says that the input does: it counts its reads down from a
@@ -108,7 +103,7 @@ fn run(keys: &mut [u64], rests: &mut [u64], line: &mut [u8], out: &mut [u8])
                 continue;
             }
             Next::Finish => {
-                if !finish(held, keys, rests, line, out) {
+                if !end_input(held, keys, rests, line, out) {
                     io::write_all(STDERR_FILENO, b"ringplan: write failed\n");
                 }
                 return;

@@ -38,8 +38,8 @@ loop-again c = (search (needs, turns), search needs, search needs, search needs,
 enum-told-2 : tie.Need-enum-told-2 Inv-loop μ-loop
 enum-told-2 c = search (needs, turns)
 
-finish-requires : tie.Need-finish-requires Inv-loop μ-loop
-finish-requires c κs =
+end-input-requires : tie.Need-end-input-requires Inv-loop μ-loop
+end-input-requires c κs =
     reached-end _ _ _ _ _ _ _ _ _ _ _ (c .before .before .before .before .before .before .before .before .before .before .before .before .before .before .before .before .before .before .before .before .before .loop .inv .0) (c .before .before .before .before .before .before .before .before .before .before .before .before .before .before .before .read-once .ensures .0) (c .before .before .before .before .before .before .before .before .before .before .before .before .before .before .before .read-once .ensures .1) (search needs)
 
 slice-aggregate-write-all : tie.Need-slice-aggregate-write-all Inv-loop μ-loop
@@ -125,7 +125,7 @@ run-spec =
     loop-less
     loop-again
     enum-told-2
-    finish-requires
+    end-input-requires
     slice-aggregate-write-all
     write-all-requires
     same-length

@@ -1,8 +1,8 @@
--- `ringplan::finish` meets its contract. Assumes nothing.
+-- `ringplan::input::finish` meets its contract. Assumes nothing.
 use borrow.Author.Needs.{needs}
 use Rattle.ringplan.proofs.Turns.{ending}
-use Rattle.ringplan.proofs.finish.Statement.{statement}
-use Rattle.ringplan.proofs.finish.Tie as tie
+use Rattle.ringplan.proofs.input.finish.Statement.{statement}
+use Rattle.ringplan.proofs.input.finish.Tie as tie
 
 returns : tie.Need-returns
 returns c = search (needs, ending)
@@ -12,15 +12,6 @@ slice-aggregate-run-line c = search (needs, ending)
 
 run-line-requires : tie.Need-run-line-requires
 run-line-requires c κs = search (needs, ending)
-
-slice-reshare-prefix-write-all : tie.Need-slice-reshare-prefix-write-all
-slice-reshare-prefix-write-all c = search (needs, ending)
-
-slice-aggregate-write-all : tie.Need-slice-aggregate-write-all
-slice-aggregate-write-all c = search (needs, ending)
-
-write-all-requires : tie.Need-write-all-requires
-write-all-requires c κs = search (needs, ending)
 
 same-length : tie.Need-same-length
 same-length c = search (needs, ending)
@@ -41,9 +32,6 @@ finish-spec =
     returns
     slice-aggregate-run-line
     run-line-requires
-    slice-reshare-prefix-write-all
-    slice-aggregate-write-all
-    write-all-requires
     same-length
     same-length-2
     same-length-3
