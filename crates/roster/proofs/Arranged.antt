@@ -11,7 +11,7 @@ use lib.ListN.{length, take, length-map}
 use borrow.Author.Tests.{eqb-true, eq-eqb, ltb-true, lt-ltb}
 use Rattle.basis.specs.Choice.{bit}
 use Rattle.basis.specs.Count.{weigh, tally, All}
-use Rattle.basis.proofs.Bools.{and-left, and-right, and-both, all-map, all-and}
+use Rattle.basis.proofs.Bools.{bit-passes, and-left, and-right, and-both, all-map, all-and}
 use Rattle.basis.proofs.Weigh.{weigh-zero, none-weigh, counted}
 use Rattle.limits.specs.Limits.{placeCount, mostCircuits}
 use Rattle.lightpath.specs.declared.Circuit.{Circuit}
@@ -32,22 +32,16 @@ use Rattle.roster.specs.Listed.{Written, Lists}
 use Rattle.roster.proofs.Standings.{entered, entries-weigh, entries-circuits, entries-count, entries-ordered}
 use Rattle.roster.proofs.Back.{stood-back, stood-weighs}
 
--- ---- within their fields
-
 -- 1 for a circuit that is not
 abbrev outside : Circuit → ℕ
 outside x = bit (not (inFields x))
-
-inside : (o : Bool) → bit (not o) ≡ 0 → o ≡ true
-inside true h = refl
-inside false h = absurd (omega arith)
 
 outside-none : (o : Bool) → o ≡ true → bit (not o) ≡ 0
 outside-none o e = rw e
 
 -- by weight
 pub typed-weight : (t : Channels) → weigh outside (circuits t) ≡ 0 → Typed t
-typed-weight t z = all-map (λ x. outside x ≡ 0) (λ x. inFields x ≡ true) (λ x. inside (inFields x)) (circuits t) (weigh-zero outside (circuits t) z)
+typed-weight t z = all-map (λ x. outside x ≡ 0) (λ x. inFields x ≡ true) (λ x. bit-passes (inFields x)) (circuits t) (weigh-zero outside (circuits t) z)
 
 pub weight-typed : (t : Channels) → Typed t → weigh outside (circuits t) ≡ 0
 weight-typed t h = none-weigh outside (circuits t) (all-map (λ x. inFields x ≡ true) (λ x. outside x ≡ 0) (λ x. outside-none (inFields x)) (circuits t) h)
@@ -68,8 +62,6 @@ places-typed keys rests count =
     each (k ∷ ks) [] = tt
     each (k ∷ ks) (r ∷ rs) = (outside-none (inFields (entryOf k r .circuit)) (entry-fields k r), each ks rs)
 
--- ---- what lists hold
-
 -- 1 for an entry that does not come back out of two numbers
 abbrev unwritten : Standing → ℕ
 unwritten m = bit (not (inFields (m .circuit) && ltb (m .place) placeCount))
@@ -86,7 +78,7 @@ module _ (N : ℕ) (ks : List ℕ) (t : Channels) (rules : Rules N ks t) (typed 
     where
       good : (m : Standing) → unwritten m ≡ 0 → Written m
       good m z =
-          let e = inside (inFields (m .circuit) && ltb (m .place) placeCount) z in
+          let e = bit-passes (inFields (m .circuit) && ltb (m .place) placeCount) z in
           (and-left _ _ e, ltb-true (m .place) placeCount (and-right (inFields (m .circuit)) _ e))
 
       each : All (λ x. unwritten (entered t x) ≡ 0) (circuits t)
@@ -132,8 +124,6 @@ module _ (N : ℕ) (ks : List ℕ) (t : Channels) (keys rests : List ℕ) (count
 pub lists-holds : (N : ℕ) (ks : List ℕ) (t : Channels) (keys rests : List ℕ) (count : ℕ) → ringRules N ks t ≡ true → Lists (entries t) keys rests count
     → Holds N ks t keys rests count
 lists-holds N ks t keys rests count r l = record { rules = r; typed = typed-entries t (l .written); keyed = l .keyed; rested = l .rested; counted = l .counted }
-
--- ---- there and back
 
 -- a table's roster holds it
 pub arranged-holds : (t : RingTable) → meetsRules t ≡ true → Typed (t .channels)

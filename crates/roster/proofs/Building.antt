@@ -25,8 +25,6 @@ use Rattle.roster.specs.Held.{Typed}
 use Rattle.roster.specs.Listed.{Lists}
 use Rattle.roster.proofs.Arranged.{typed-entries, arranged-most, table-typed, there-and-back, back-and-there, stands-rules, arranged-stands}
 
--- ---- a roster of a table
-
 -- no entry in a list of zeros
 pub blank-lists : Lists [] (replicate mostCircuits 0) (replicate mostCircuits 0) 0
 blank-lists = record { keyed = refl; rested = refl; counted = refl; most = omega arith; ordered = tt; written = tt }
@@ -85,8 +83,6 @@ module _ (t : RingTable) (m : Bool) (is : m ≡ meetsRules t) where
 
 -- for `search (needs, building)`
 pub ruleset building = (built-refused, built-refused-22, built-meets, built-granted, built-granted-0)
-
--- ---- the test of a roster
 
 -- two lists are equal from position i on
 pub record Alike (a b : List ℕ) (i : ℕ) : Type 0 where
@@ -162,8 +158,6 @@ module _ (r : Roster) where
 
 -- for `search (needs, standing)`
 pub ruleset standing = (stands-many, stands-broken, stands-meets, stands-same)
-
--- ---- a table of a roster
 
 module _ (r : Roster) (m : Bool) (is : m ≡ stands r) where
   pub table-refused : (b : RingTable) → b ≡ blankTable → not m ≡ true → record { table = b; verdict = refused BrokenRule } ≡ tableBuilt r

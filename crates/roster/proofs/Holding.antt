@@ -73,8 +73,6 @@ pub read-table : (h : Heading) (keys rests : List ℕ) (chs : Channels) → chs 
     → record { channels = chs; ports = h .ports; nodes = h .nodes } ≡ tableIn h keys rests
 read-table h keys rests chs e = rw e
 
--- ---- what is held
-
 module _ (t : RingTable) (h : Heading) (keys rests : List ℕ) (H : HoldsTable t h keys rests) where
   -- the lists give the table back
   pub held-table : tableIn h keys rests ≡ t

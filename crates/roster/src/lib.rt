@@ -3,7 +3,6 @@
 mod build;
 mod held;
 mod lists;
-mod turns;
 
 ghost use mathlib.Core.Path.{_≡_};
 ghost use Rattle.roster.specs.Roster.{blankRoster};

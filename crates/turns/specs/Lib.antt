@@ -1,0 +1,2 @@
+-- How many turns there are.
+pub mod Turns
