@@ -1,9 +1,9 @@
--- Arrays of structs, and the first elements of an array, counted and lent. Assumes nothing.
+-- Arrays of structs, the first elements of an array, counted and lent, and an element put in. Assumes nothing.
 use Prim.Native.Nat.{ℕ, zero, suc, _≤_, zero-le, suc-le-suc}
-use mathlib.Core.Path.{_≡_, sym, _∙_}
-use mathlib.Core.List.{List, [], _∷_, map}
+use mathlib.Core.Path.{_≡_, refl, sym, _∙_}
+use mathlib.Core.List.{List, [], _∷_, _++_, map}
 use native.Mathlib.Omega.{arith}
-use lib.ListN.{length, take, length-map}
+use lib.ListN.{length, take, drop, length-map}
 use lib.Seq.{length-take-le}
 
 -- the length of an array of structs, which is known of the list of what they are stored as
@@ -23,3 +23,9 @@ lent-within array width n e h = omega arith
 -- and are n
 pub lent-counted : {A : Type 0} (array : List A) (n : ℕ) → n ≤ length array → n ≡ length (take n array)
 lent-counted array n h = sym (length-take-le n array h)
+
+-- an element put in is put in where a list is mapped
+pub map-insert : {A B : Type 0} (f : A → B) (k : ℕ) (x : A) (xs : List A) → map f (take k xs ++ (x ∷ drop k xs)) ≡ take k (map f xs) ++ (f x ∷ drop k (map f xs))
+map-insert f zero x xs = refl
+map-insert f (suc k) x [] = refl
+map-insert f (suc k) x (y ∷ xs) = rw (map-insert f k x xs)

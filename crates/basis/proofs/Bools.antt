@@ -5,6 +5,7 @@ use mathlib.Core.Logic.{_⊎_, inl, inr}
 use mathlib.Core.Bool.{Bool, true, false, _&&_, _||_, not, false≢true}
 pub use mathlib.Core.Bool.{and-false}
 use mathlib.Core.List.{List, [], _∷_, _++_}
+use native.Mathlib.Omega.{arith}
 use lib.Dec.{eqb, leb, ltb, leb·suc-suc}
 use mir.Val.{boolByte}
 use borrow.Author.Tests.{leb-true, leb-false, lt-ltb, le-ltb, eq-eqb, ne-eqb}
@@ -49,6 +50,11 @@ fails false h = refl
 pub same-test : (a b : Bool) → (a ≡ true → b ≡ true) → (b ≡ true → a ≡ true) → a ≡ b
 same-test true b f g = sym (f refl)
 same-test false b f g = fails b (λ e. false≢true (g e))
+
+-- a test that weighs nothing where it fails passes
+pub bit-passes : (o : Bool) → bit (not o) ≡ 0 → o ≡ true
+bit-passes true h = refl
+bit-passes false h = absurd (omega arith)
 
 -- not at most is above
 pub not-leb : (a b : ℕ) → not (leb a b) ≡ ltb b a

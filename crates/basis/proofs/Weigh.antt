@@ -19,6 +19,11 @@ pub weigh-append : {A : Type 0} (w : A → ℕ) (xs ys : List A) → weigh w (xs
 weigh-append w [] ys = omega arith
 weigh-append w (x ∷ xs) ys = omega (arith, weigh-append w xs ys)
 
+-- a list mapped weighs what its elements do, mapped
+pub weigh-map : {A B : Type 0} (w : B → ℕ) (f : A → B) (xs : List A) → weigh w (map f xs) ≡ weigh (λ x. w (f x)) xs
+weigh-map w f [] = refl
+weigh-map w f (x ∷ xs) = omega (arith, weigh-map w f xs)
+
 -- two weights that agree on each element agree on the list
 pub weigh-same : {A : Type 0} (f g : A → ℕ) (xs : List A) → All (λ x. f x ≡ g x) xs → weigh f xs ≡ weigh g xs
 weigh-same f g [] h = refl

@@ -1,5 +1,4 @@
--- Text whose layout is free: what is left of the lent bytes is not. Assumes nothing. What printing a picture and running a line of the
--- planner's program promise.
+-- Text whose layout is free: what is left of the lent bytes is not. Assumes nothing. What printing a picture promises.
 use Prim.Native.Nat.{ℕ, _+_, _≤_}
 use mathlib.Core.List.{List}
 use Rattle.buffer.specs.Put.{Put}

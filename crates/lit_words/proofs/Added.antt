@@ -16,13 +16,9 @@ use Rattle.basis.proofs.Weigh.{bit-most}
 use Rattle.limits.specs.Limits.{placeCount}
 use Rattle.lit_words.specs.Lit.{word, wordsOf}
 use Rattle.lit_words.specs.With.{withPlace, RoomFor}
+use Rattle.lit_words.proofs.Bits.{half-of}
 
--- ---- two tests
-
--- the last place that joins is the lowest bit, and halving takes it off
-half : (w : ℕ) (b : Bool) → (w * 2 + bit b) / 2 ≡ w
-half w b = omega (arith, bit-most b)
-
+-- the last place that joins is the lowest bit
 low : (w : ℕ) (b : Bool) → (w * 2 + bit b) % 2 ≡ bit b
 low w b = omega (arith, bit-most b)
 
@@ -42,15 +38,13 @@ bit-both false false = refl
 pub word-either : (f g : ℕ → Bool) (k i : ℕ) → bitOr (word f k i) (word g k i) ≡ word (λ q. f q || g q) k i
 unfolding word
 word-either f g zero i = or-zero-l 0
-word-either f g (suc k) i = or-step (word f (suc k) i) (word g (suc k) i) ∙ simp (half, low, word-either f g k (suc i), bit-either)
+word-either f g (suc k) i = or-step (word f (suc k) i) (word g (suc k) i) ∙ simp (half-of, low, word-either f g k (suc i), bit-either)
 
 -- and of those that pass both
 pub word-both : (f g : ℕ → Bool) (k i : ℕ) → bitAnd (word f k i) (word g k i) ≡ word (λ q. f q && g q) k i
 unfolding word
 word-both f g zero i = and-zero-l 0
-word-both f g (suc k) i = and-step (word f (suc k) i) (word g (suc k) i) ∙ simp (half, low, word-both f g k (suc i), bit-both)
-
--- ---- one place
+word-both f g (suc k) i = and-step (word f (suc k) i) (word g (suc k) i) ∙ simp (half-of, low, word-both f g k (suc i), bit-both)
 
 -- its word, where it is not among the k places from i on
 word-off : (p k i : ℕ) → ((q : ℕ) → i ≤ q → q < i + k → p ≢ q) → word (λ q. eqb p q) k i ≡ 0

@@ -84,7 +84,7 @@ lowest-of : (w : ℕ) (t : Bool) → bitOf (w * 2 + bit t) 0 ≡ t
 lowest-of w true = low-set (w * 2 + 1) (omega arith)
 lowest-of w false = low-clear (w * 2 + 0) (omega arith)
 
-half-of : (w : ℕ) (t : Bool) → (w * 2 + bit t) / 2 ≡ w
+pub half-of : (w : ℕ) (t : Bool) → (w * 2 + bit t) / 2 ≡ w
 half-of w t = omega (arith, bit-most t)
 
 -- bit b of the word of the places from i on is that of place i + b

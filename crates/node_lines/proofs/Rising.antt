@@ -9,7 +9,7 @@ use lib.Dec.{eqb}
 use borrow.Author.Tests.{eqb-true}
 use Rattle.basis.specs.Choice.{pick, bit}
 use Rattle.basis.specs.Count.{weigh, tally, All}
-use Rattle.basis.proofs.Bools.{bit-eq, all-map, all-and}
+use Rattle.basis.proofs.Bools.{bit-eq, bit-passes, all-map, all-and}
 use Rattle.basis.proofs.Weigh.{weigh-zero, distinct-most}
 use Rattle.lightpath.specs.declared.Circuit.{Circuit}
 use Rattle.channels.specs.Channels.{Channels, circuits}
@@ -64,11 +64,7 @@ module _ (node : ℕ) where
       (arrived-weighs node (λ c. bit (not (eqb (c .source) node))) t ∙ away (circuits t)))
     where
       is : (k : ℕ) → bit (not (eqb k node)) ≡ 0 → k ≡ node
-      is k z = go (eqb k node) refl
-        where
-          go : (o : Bool) → eqb k node ≡ o → k ≡ node
-          go true e = eqb-true k node e
-          go false e = absurd (omega (arith, rw e at z))
+      is k z = eqb-true k node (bit-passes (eqb k node) z)
 
   -- and have each number once
   fewer : (k : ℕ) (cs : List Circuit) → weigh (λ c. pick (eqb (c .destination) node) (bit (eqb (c .number) k)) 0) cs ≤ tally (λ c. c .number) k cs

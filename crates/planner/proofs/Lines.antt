@@ -9,7 +9,6 @@ use lib.IntN.{ℤ}
 use lib.ListN.{length, take, drop, length-take, length-drop}
 use lib.Seq.{take-at, take-all, length-take-le}
 use borrow.Author.Tests.{leb-true, le-ltb}
-use Rattle.basis.specs.Choice.{pick}
 use Rattle.basis.proofs.Branch.{pick-true, pick-false}
 use Rattle.limits.specs.Limits.{mostNodes, mostCircuits, tidyRecords}
 use Rattle.moves.specs.MoveList.{recorded}
@@ -48,13 +47,11 @@ use Rattle.row_lines.specs.Lines.{fromText, fromRoom}
 use Rattle.node_lines.specs.Lines.{toText, nodesText, nodesRoom}
 use Rattle.tidy_lines.specs.Lines.{tidyLine, tidyRoom}
 use Rattle.picture.specs.Room.{pictureRoom}
-use Rattle.desk.specs.Desk.{Desk, deskOf, Outcome, refuse, runLine, HasRun, CanRun}
-use Rattle.desk.specs.Demand3.{Opens, leftBy}
+use Rattle.desk.specs.Desk.{Desk, deskOf, Outcome, refuse, runLine, HasRun}
 use Rattle.desk.specs.declared.DeskState.{DeskState}
 use Rattle.desk.specs.declared.Ran.{Ran}
 use Rattle.desk.proofs.Running.{keeps-held, desk-held}
-use Rattle.answer_room.specs.Room.{lineRoom}
-use Rattle.planner_lines.specs.Line.{Free, says, ifReady, readForm, readWord, readFile, answerText, runTidy, planLine}
+use Rattle.planner_lines.specs.Line.{Free, says, ifReady, readForm, readWord, runTidy, planLine}
 use Rattle.planner_lines.specs.Ran.{CanAnswer, LineAnswered, FileAnswered, LineRun}
 use Rattle.planner_lines.proofs.Script.{plan-opens}
 use Rattle.saved_forms.specs.Saved.{FormIn, WordRead}

@@ -1,7 +1,7 @@
 -- A line of `ringplan`, by the command that it is: the desk after it, and what it prints. Assumes nothing. What `planner::run_line` promises.
 use Prim.Native.Nat.{ℕ}
 use mathlib.Core.Bool.{Bool, true, false, _||_}
-use mathlib.Core.List.{List, [], _∷_, _++_}
+use mathlib.Core.List.{List, [], _++_}
 use lib.ListN.{length, drop}
 use Rattle.basis.specs.Choice.{pick}
 use Rattle.limits.specs.Limits.{tidyRecords}
@@ -70,7 +70,7 @@ readFile d opened content = pick opened (readForm d content) (says d (bytes "rea
 -- what is asked of a table
 abbrev pub answerText : Free → RingTable → Question → List ℕ
 answerText free t Write = formLine (formOf t)
-answerText free t (WriteFile path) = pick (free .wrote) (lengthLine (length (formOf t))) (bytes "write failed\n")
+answerText free t (WriteFile start) = pick (free .wrote) (lengthLine (length (formOf t))) (bytes "write failed\n")
 answerText free t Load = loadLine (loads (t .nodes) (t .channels))
 answerText free t (Link link wavelength direction) = linkLine (linkOf t link wavelength direction)
 answerText free t Circuits = circuitsText (t .channels)
@@ -101,7 +101,7 @@ planLine free d l = runCommand free d l (commandOf l)
 -- whether a command leaves something free
 abbrev pub asksFree : Question → Bool
 asksFree Write = false
-asksFree (WriteFile path) = true
+asksFree (WriteFile start) = true
 asksFree Load = false
 asksFree (Link link wavelength direction) = false
 asksFree Circuits = false

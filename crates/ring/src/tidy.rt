@@ -22,7 +22,7 @@ use refusals::Refusal;
 
 impl RingTable {
     // The rounds of a table that meets the ring rules.
-    fn join_up(self) -> TidyDecision
+    fn tidy_rounds(self) -> TidyDecision
         requires { ⌜ meetsRules self ≡ true ⌝ }
         ensures { λ r. ⌜ r ≡ tidyingBy self granted ⌝ }
     {
@@ -72,7 +72,7 @@ impl RingTable {
         if lent < TIDY_RECORDS {
             return self.refuse_tidy(Refusal::ShortList);
         }
-        self.join_up()
+        self.tidy_rounds()
     }
 
     // A tidying by value: the table, the answer and the moves, for a lent list of so many records.

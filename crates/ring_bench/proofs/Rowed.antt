@@ -21,8 +21,6 @@ use Rattle.rows.specs.declared.Row.{Row}
 use Rattle.rows.proofs.Held.{held-room, held-order, held-keyed, held-row, rests-same}
 use Rattle.ring_bench.specs.Lookups.{withEntry, withAll, withRows, lookups}
 
--- ---- one entry
-
 module _ (key rest : ℕ) (m : Standing) (e : m ≡ entryOf key rest) where
   -- its fields are small
   small : (m .circuit .number < 2 ^ 32) × ((m .circuit .destination < 2 ^ 8) × (m .place < 2 ^ 8))
@@ -43,8 +41,6 @@ module _ (key rest : ℕ) (m : Standing) (e : m ≡ entryOf key rest) where
 
 -- for `search (needs, summed)`
 pub ruleset summed = (ends-fit, sum-fits, entry-summed)
-
--- ---- the entries of a row
 
 -- those from i on are still to be summed
 pub record Summing (keys rests : List ℕ) (sum last i : ℕ) : Type 0 where
@@ -69,8 +65,6 @@ module _ (keys rests : List ℕ) (sum last i : ℕ) (q : Summing keys rests sum 
 
 -- for `search (needs, summing)`
 pub ruleset summing = (sum-none, sum-next, sum-all)
-
--- ---- the rows of all nodes
 
 -- those of the nodes up to this one are summed
 pub record Rowed (es : List Standing) (N sum last node : ℕ) : Type 0 where
@@ -109,8 +103,6 @@ module _ (N : ℕ) (ks : List ℕ) (t : Channels) (keys rests : List ℕ) (count
 -- for `search (needs, held, rowed)`
 pub ruleset rowed = (row-scaled, rests-same, row-summed)
 
--- ---- so many times
-
 -- all nodes are looked up i times
 pub record Repeated (es : List Standing) (N count sum i : ℕ) : Type 0 where
   pub is : sum ≡ lookups es N i
@@ -132,8 +124,6 @@ repeat-all es N count sum i q h = let e : i ≡ count = omega (arith, q .within)
 
 -- for `search (needs, repeated)`
 pub ruleset repeated = (repeat-none, repeat-next, repeat-all)
-
--- ---- of a table
 
 module _ (t : RingTable) (h : Heading) (keys rests : List ℕ) (H : HoldsTable t h keys rests) where
   -- the lists hold the places that they are of

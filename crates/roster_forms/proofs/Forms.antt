@@ -28,8 +28,6 @@ use Rattle.encode.specs.declared.Written.{Written}
 use Rattle.encode.specs.declared.Written.the-variants.{Refused as notWritten}
 use Rattle.roster_forms.specs.Forms.{readRoster, writeRoster, writeRosterBytes, writeRosterReasons, reportRoster, reportRosterBytes, reportRosterReasons}
 
--- ---- reading
-
 -- what a reading is to be, of a roster
 abbrev Reads : List ℕ → Built → Type 0
 Reads s b =
@@ -56,8 +54,6 @@ module _ (s : List ℕ) (a : Answered) (is : a ≡ readOf s) (numbers : verdictA
           which granted = 0
           which (refused y) = 1
 
--- ---- a roster that stands, and its table
-
 module _ (r : Roster) where
   pub table-meets : (t : RingTable) → stands r ≡ true → t ≡ tableOf r → meetsRules t ≡ true
   table-meets t s e = rw e (stands-rules r s)
@@ -68,8 +64,6 @@ module _ (r : Roster) where
 
   pub untested : (b : Bool) → b ≡ stands r → not b ≡ true → stands r ≡ false
   untested b is h = sym is ∙ not-true b h
-
--- ---- writing
 
 -- what a writing is to be: the answer, the bytes and the numbers
 abbrev Writes : Roster → List ℕ → Written → List ℕ → Type 0
@@ -88,8 +82,6 @@ module _ (r : Roster) (l : List ℕ) where
   pub write-refused : stands r ≡ false → Writes r l (notWritten BrokenRule) l
   unfolding writeRoster writeRosterBytes
   write-refused f = rw f (refl, (refl, refl))
-
--- ---- the load report
 
 -- what a report is to be
 abbrev Reports : Roster → List ℕ → Verdict → List ℕ → Type 0

@@ -8,7 +8,7 @@ use lib.Dec.{eqb, ltb}
 use lib.ListN.{length, take}
 use borrow.Author.Tests.{lt-ltb, le-ltb}
 use Rattle.basis.specs.Choice.{bit}
-use Rattle.basis.proofs.Bools.{bit-eq, all-map}
+use Rattle.basis.proofs.Bools.{bit-eq, bit-passes, all-map}
 use Rattle.basis.proofs.Weigh.{none-weigh}
 use Rattle.basis.specs.Count.{weigh, All}
 use Rattle.basis.specs.Search.{firstPlace}
@@ -63,21 +63,15 @@ use Rattle.roster_open.specs.InPlace.{OpenedIn, OpensIn, ClosesIn, repla
 use Rattle.roster_open.proofs.Moved.{numberIn, entries-single, opened-entries, moved-there, withoutAt, closed-entries}
 use Rattle.roster_open.proofs.Replaced.{lists-without, taken-number, found-none, found-some, without-length}
 
--- ---- within their fields
-
 -- a circuit that was filed is within its fields
 new-fields : (p : ℕ) (c : Circuit) (es : List Standing) → All Written (filed (record { place = p; circuit = c }) es) → inFields c ≡ true
-new-fields p c es h = inside (inFields c) (omega (arith, filed-weighs out (record { place = p; circuit = c }) es, none-weigh out (filed (record { place = p; circuit = c }) es) none))
+new-fields p c es h = bit-passes (inFields c) (omega (arith, filed-weighs out (record { place = p; circuit = c }) es, none-weigh out (filed (record { place = p; circuit = c }) es) none))
   where
     out : Standing → ℕ
     out m = bit (not (inFields (m .circuit)))
 
     none : All (λ m. out m ≡ 0) (filed (record { place = p; circuit = c }) es)
     none = all-map Written (λ m. out m ≡ 0) (λ m w. rw (w .0)) (filed (record { place = p; circuit = c }) es) h
-
-    inside : (o : Bool) → bit (not o) ≡ 0 → o ≡ true
-    inside true z = refl
-    inside false z = absurd (omega arith)
 
 -- and a table with such a circuit more has its circuits within theirs
 opened-typed : (t : Channels) → Typed t → (c : Circuit) (t′ : Channels) → ((w : Circuit → ℕ) → weigh w (circuits t′) ≡ w c + weigh w (circuits t)) → inFields c ≡ true → Typed t′
@@ -87,8 +81,6 @@ opened-typed t typed c t′ exact e =
 -- the circuit of a number that has a place has that number
 circuit-number : (t : Channels) (n : ℕ) → whereIs t n < placeCount → circuitOf t n .number ≡ n
 circuit-number t n l = parted n (at t (whereIs t n)) (found-there t n l) .number
-
--- ---- what a table in lists is
 
 module _ (h : Heading) (keys rests : List ℕ) (H : HoldsTable (tableIn h keys rests) h keys rests) where
   abbrev N : ℕ
@@ -115,8 +107,6 @@ module _ (h : Heading) (keys rests : List ℕ) (H : HoldsTable (tableIn h keys r
 
   pub within-rests : h .count ≤ length rests
   within-rests = omega (arith, lists-room (entries chs) keys rests (h .count) lists .1, lists .counted, lists .most)
-
-  -- ---- an opening
 
   module _ (c : Circuit) (may : Allowable N ks chs c) where
     abbrev plan : Plan
@@ -236,8 +226,6 @@ module _ (h : Heading) (keys rests : List ℕ) (H : HoldsTable (tableIn h keys r
       open-refused r o e f =
           rw f (subst (λ (d : Decision). OpensIn d keys rests (record { heading = h; answer = notOpened r; moves = none }))
           (decide-refused t c n (H .holds .rules) v r (refusing t r) is e refl) (opened-refused r))
-
-  -- ---- a closing
 
   module _ (n at : ℕ) (is : at ≡ numberedAt n (take (h .count) keys)) where
     place : at ≡ firstPlace (λ e. eqb (numberIn e) n) (entries chs)

@@ -12,7 +12,7 @@ use Rattle.basis.specs.Choice.{pick, bit}
 use Rattle.basis.specs.Count.{weigh, tally, All}
 use Rattle.basis.specs.Search.{firstPlace}
 use Rattle.basis.proofs.Bools.{bit-eq, all-map, all-and}
-use Rattle.basis.proofs.Weigh.{weigh-same, weigh-zero, counted, by-key, distinct-most}
+use Rattle.basis.proofs.Weigh.{weigh-map, weigh-same, weigh-zero, counted, by-key, distinct-most}
 use Rattle.limits.specs.Limits.{placeCount}
 use Rattle.lightpath.specs.declared.Circuit.{Circuit}
 use Rattle.channels.specs.Channels.{Channels, circuits, numbered, whereIs}
@@ -25,7 +25,7 @@ use Rattle.steps.specs.Moved.{moved, movedTo, Names}
 use Rattle.roster.specs.Roster.{keyIn, filed, entries}
 use Rattle.roster.specs.Held.{Typed}
 use Rattle.roster.specs.Listed.{Ordered, Written}
-use Rattle.roster.proofs.Filing.{filed-weighs, weigh-map, filed-ordered, single-apart, one-order}
+use Rattle.roster.proofs.Filing.{filed-weighs, filed-ordered, single-apart, one-order}
 use Rattle.roster.proofs.Standings.{entered, entries-weigh, entries-ordered}
 use Rattle.roster.proofs.Arranged.{entries-written}
 use Rattle.roster_open.specs.InPlace.{replaced, replacedAll, Single}
@@ -33,8 +33,6 @@ use Rattle.roster_open.specs.InPlace.{replaced, replacedAll, Single}
 -- the number of an entry
 abbrev pub numberIn : Standing → ℕ
 numberIn e = e .circuit .number
-
--- ---- numbers and keys that stand once
 
 module _ (N : ℕ) (ks : List ℕ) (t : Channels) (rules : Rules N ks t) where
   -- each number of a table stands once among its entries
@@ -49,8 +47,6 @@ are-entries N ks t rules typed es o h =
     one-order (entries t) es (entries-ordered t) o
     (single-apart (entries t) (entries-written N ks t rules typed) (entries-single N ks t rules))
     (λ v. entries-weigh t (rules .numbers) (limits-hold N ks t rules .long) v ∙ sym (h v))
-
--- ---- an opening
 
 -- an entry after several moves
 abbrev replacedBy : List Move → Standing → Standing
@@ -164,8 +160,6 @@ module _ (N : ℕ) (ks : List ℕ) (t : Channels) (rules : Rules N ks t) (c : Ci
           let r = rules-hold N ks t′ (k .kept .rules) in
           let l = live-placed t′ (m .number) (limits-hold N ks t′ r .long) (lt-ltb 0 (numbered (m .number) (circuits t′)) (omega (arith, ltb-true 0 (numbered (m .number) (circuits t)) (n .was), k .kept .exact (λ y. bit (eqb (y .number) (m .number)))))) in
           omega (arith, n .now)
-
--- ---- a closing
 
 -- the entries without that of a number
 abbrev pub withoutAt : ℕ → List Standing → List Standing

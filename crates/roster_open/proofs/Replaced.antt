@@ -175,8 +175,6 @@ module _ (keys rests : List ℕ) (count : ℕ) (a : Moves) where
 -- for `search (needs, replacingAll)`
 pub ruleset replacingAll = (replaces-none, replaces-one, replaces-two, replaces-three)
 
--- ---- one taken out
-
 map-without : {B : Type 0} (f : Standing → B) (i : ℕ) (es : List Standing) → map f (withoutAt i es) ≡ take i (map f es) ++ drop (suc i) (map f es)
 map-without f zero [] = refl
 map-without f zero (e ∷ es) = refl

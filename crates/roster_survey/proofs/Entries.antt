@@ -12,7 +12,7 @@ use Rattle.basis.specs.Choice.{pick, bit}
 use Rattle.basis.specs.Count.{weigh, tally}
 use Rattle.basis.proofs.Bools.{all-map}
 use Rattle.basis.proofs.Search.{all-at}
-use Rattle.basis.proofs.Weigh.{weigh-same, keyed-none, counted}
+use Rattle.basis.proofs.Weigh.{weigh-map, weigh-same, keyed-none, counted}
 use Rattle.lightpath.specs.Circuit.{blankCircuit}
 use Rattle.lightpath.specs.declared.Circuit.{Circuit}
 use Rattle.lightpath.proofs.Same.{same-circuit}
@@ -28,13 +28,10 @@ use Rattle.entries.proofs.Words.{key-number, rest-place, rest-destination, entr
 use Rattle.roster.specs.Roster.{keyIn, entries}
 use Rattle.roster.specs.Held.{Holds}
 use Rattle.roster.specs.Listed.{Written, Lists}
-use Rattle.roster.proofs.Filing.{weigh-map}
 use Rattle.roster.proofs.Standings.{entries-circuits, ofPlace, entries-at}
 use Rattle.roster.proofs.Arranged.{held-keys, held-rests, holds-lists}
 use Rattle.rows.proofs.Held.{held-room}
 use Rattle.roster_survey.specs.Pass.{numberIn, placeIn, destinationIn, standAt, litIn, Entered, placeAt}
-
--- ---- lists
 
 abbrev blankEntry : Standing
 blankEntry = record { place = 0; circuit = blankCircuit }
@@ -71,8 +68,6 @@ lone-weighs w p (m ∷ es) (suc j) one l e = go (eqb (m .place) p) refl (λ o. l
         → pick o (w (m .circuit)) 0 + weigh (ofPlace w p) es ≡ w (getD es j blankEntry .circuit)
     go true o rest = absurd (omega (arith, rw o at one, there))
     go false o rest = omega (arith, rest (omega (arith, rw o at one)))
-
--- ---- the entries of a table
 
 -- one of the first count stands at place p
 pub record Found (rests : List ℕ) (count p : ℕ) : Type 0 where

@@ -88,8 +88,6 @@ module _ (g : ℕ → Bool) (k : ℕ → ℕ) (m : ℕ) where
           let e : v .place ≡ m = omega (arith, s .most) in
           e ∙ sym (first-end m f (λ q l. before q (omega arith)))
 
--- ---- the loop
-
 -- the entry to join of those before i
 pub record Finding (N m : ℕ) (keys rests : List ℕ) (count : ℕ) (c : Circuit) (shared : Lit) (i : ℕ) (v : Nearest) : Type 0 where
   pub entered : Entered keys rests count

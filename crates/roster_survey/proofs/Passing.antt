@@ -24,8 +24,6 @@ use Rattle.lit_words.specs.declared.Lit.{Lit}
 use Rattle.lit_words.proofs.Added.{word-either, word-both, words-none, one-room, words-one}
 use Rattle.roster_survey.specs.Pass.{Pass, numberIn, placeIn, destinationIn, standAt, litIn, sharedIn, passOf, eitherOf, bothOf, onePlace, passWith, Takes, Entered}
 
--- ---- one entry
-
 -- a count has room for it
 pub entry-fits : (n : ℕ) (x : Bool) → n < mostCircuits → Fits w64 (n + boolByte x)
 entry-fits n x h = record { fits = omega (arith, byte-bit x, bit-most x) }
@@ -46,8 +44,6 @@ module _ (c : Circuit) (v : Pass) (key rest : ℕ) (t : Takes v rest) where
       rw (f, k, g, e, byte-bit (eqb (numberIn key) (c .number)), byte-bit (eqb (destinationIn rest) (c .destination)))
 
 pub ruleset entry = (entry-fits, entry-room, entry-seen)
-
--- ---- the loop
 
 -- more than none stand with one more where some did or this one does
 more-lit : (n : ℕ) (b : Bool) → (ltb 0 n || b) ≡ ltb 0 (n + bit b)

@@ -35,8 +35,6 @@ use Rattle.roster_survey.proofs.Lowest.{Stands, least-first}
 use Rattle.roster_survey.proofs.Entries.{held-numbered, held-received, held-at, held-lit, held-place, held-some, held-alone, held-found, held-entered}
 
 module _ (N : ℕ) (ks : List ℕ) (t : Channels) (keys rests : List ℕ) (count : ℕ) (h : Holds N ks t keys rests count) where
-  -- ---- what the calls ask for
-
   pub survey-entered : Entered keys rests count
   survey-entered = held-entered N ks t keys rests count h
 
@@ -44,8 +42,6 @@ module _ (N : ℕ) (ks : List ℕ) (t : Channels) (keys rests : List ℕ) (count
   survey-nodes = omega (arith, limits-hold N ks t (rules-hold N ks t (h .rules)) .three)
 
   module _ (c : Circuit) where
-    -- ---- the entry to join
-
     module _ (v : Pass) (seen : v ≡ passOf c (take count keys) (take count rests)) where
       -- a place is shared where two stand
       shared-says : (p : ℕ) → p < placeCount → litBit (v .shared) p ≡ ltb 1 (weigh (λ x. 1) (held (at t p)))
@@ -120,8 +116,6 @@ module _ (N : ℕ) (ks : List ℕ) (t : Channels) (keys rests : List ℕ) (count
           key = λ l. omega (arith, s .within l, survey-entered .keyed);
           rest = λ l. omega (arith, s .within l, survey-entered .rested);
         }
-
-        -- ---- the survey
 
         pub survey-is : (r : Row) (x : Standing) → r ≡ rowIn (take count keys) (c .source) → x ≡ standingIn m keys rests n
             → record { numbered = v .numbered; sent = r .end - r .start; received = v .received; join = x; lit = v .lit } ≡ surveyOf N m t c

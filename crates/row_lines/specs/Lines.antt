@@ -1,4 +1,5 @@
--- What is printed in answer to `from NODE`: document 02, E7, "Lookups by node should be short". Assumes nothing. What `put_from` promises.
+-- What is printed in answer to `from NODE`: document 02, E7, "Lookups by node should be short"; and of the circuits to a node. Assumes nothing.
+-- What `put_from` and `put_row` promise.
 use Prim.Native.Nat.{ℕ, _+_, _*_}
 use mathlib.Core.Bool.{Bool, true, false}
 use mathlib.Core.List.{List, [], _∷_, _++_}

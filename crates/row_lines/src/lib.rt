@@ -9,17 +9,8 @@ ghost use Rattle.roster.specs.Roster.{entriesIn, placesOf};
 ghost use Rattle.roster.specs.Held.{Holds};
 ghost use Rattle.buffer.specs.Put.{Printed};
 ghost use Rattle.row_lines.specs.Lines.{entryLine, entryLines, firstLine, rowText, fromText, entryRoom, entryLinesRoom, firstRoom, fromRoom};
-use limits::MOST_PORTS;
 use refusals::Refusal;
 use roster::Heading;
-
-// The most bytes of the first line, and of a circuit's.
-const FIRST_ROOM: usize = 36;
-
-const ENTRY_ROOM: usize = 52;
-
-// The most bytes of the answer: a node sends at most as many circuits as it has ports, and receives at most as many.
-pub const FROM_ROOM: usize = FIRST_ROOM + MOST_PORTS as usize * ENTRY_ROOM;
 
 // `circuit NUMBER from SOURCE place PLACE`, or `circuit NUMBER to DESTINATION place PLACE`, of an entry's key and rest.
 fn put_entry(out: &mut [u8], at: usize, to: bool, key: u64, rest: u64) -> usize

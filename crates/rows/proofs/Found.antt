@@ -26,8 +26,6 @@ row-found keys node first start end f s e =
     let n : first + 2 ^ 32 ≡ rowKey (suc node) = omega arith in
     λ i. record { start = (s ∙ ap (λ k. rankOf k keys) f) i; end = (e ∙ ap (λ k. rankOf k keys) n) i }
 
--- ---- a key, where keys rise
-
 module _ (l : List ℕ) (k : ℕ) where
   -- the first that is k, by index
   abbrev is : ℕ → Bool
@@ -53,8 +51,6 @@ module _ (l : List ℕ) (k : ℕ) where
           go (no b) =
               let other : getD l (rankOf k l) 0 ≢ k = n (omega arith) in
               ne-eqb (getD l i 0) k (λ e. other (omega (arith, rank-from k l up (rankOf k l) (omega arith) (omega arith), up .below (rankOf k l) i (omega arith) h)))
-
--- ---- the position of a number in a node's row
 
 module _ (keys : List ℕ) (count node first number at : ℕ) (h : (count ≤ length keys) × Rising (take count keys)) (f : first ≡ rowKey node)
     (r : at ≡ rankOf (first + number) (take count keys)) where

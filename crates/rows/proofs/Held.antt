@@ -28,8 +28,6 @@ use Rattle.roster.proofs.Listing.{lists-room}
 use Rattle.rows.specs.Row.{Row, rowOf, rowIn}
 use Rattle.rows.proofs.Rows.{Lengths, row-entries, row-length, row-sends}
 
--- ---- parts of keys and rests
-
 -- no rests, no entries
 none-in : (keys : List ℕ) → entriesIn keys [] ≡ []
 none-in [] = refl
@@ -56,8 +54,6 @@ part-take (suc s) m zero l h = absurd (omega arith)
 part-take (suc s) m (suc n) [] h = refl
 part-take (suc s) m (suc n) (x ∷ l) h = part-take s m n l (omega arith)
 
--- ---- the ports of a node
-
 -- each port count is at most m
 each-at : (m : ℕ) (ks : List ℕ) → eachAtMost m ks ≡ true → (j : ℕ) → getD ks j 0 ≤ m
 each-at m [] h j = omega arith
@@ -79,8 +75,6 @@ receives-most N ks t rules (suc j) on =
     let l = limits-hold N ks t rules in
     let i = leb-true (suc j) N (and-right (leb 1 (suc j)) _ on) in
     omega (arith, rules .ports j (omega (arith, l .fields, l .most)) .1, each-at mostPorts ks (search (rules .bounds, and-left, and-right)) j)
-
--- ---- the row
 
 module _ (N : ℕ) (ks : List ℕ) (t : Channels) (keys rests : List ℕ) (count : ℕ) (h : Holds N ks t keys rests count) where
   lists : Lists (entries t) keys rests count

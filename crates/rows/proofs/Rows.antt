@@ -34,8 +34,6 @@ use Rattle.rows.specs.Row.{rowOf, rowIn, positionIn}
 abbrev InFields : Standing → Type 0
 InFields m = inFields (m .circuit) ≡ true
 
--- ---- the entries
-
 -- one that is below k stands before it
 rank-after : (k : ℕ) (m : Standing) (es : List Standing) → keyIn m < k → rankOf k (map keyIn (m ∷ es)) ≡ suc (rankOf k (map keyIn es))
 unfolding rankOf
@@ -95,8 +93,6 @@ row-entries node (m ∷ es) h f = go (decLt (m .circuit .source) node) (ℕ-disc
     go (no l) (yes e) r = between-first j k m es (from j (omega (arith, w))) (omega (arith, w)) ∙ rw (eq-eqb (m .circuit .source) node e, r)
     go (no l) (no d) r = between-none j k m es (from k (omega (arith, w))) ∙ r ∙ rw (ne-eqb (m .circuit .source) node d)
 
--- ---- how many
-
 -- the row ends among the entries and not before its start, and is as long as the entries of the node are many
 pub record Lengths (node : ℕ) (es : List Standing) : Type 0 where
   pub order : rowIn (map keyIn es) node .start ≤ rowIn (map keyIn es) node .end
@@ -143,8 +139,6 @@ row-tally node (m ∷ es) = go (eqb (m .circuit .source) node) (row-tally node e
 -- so how many circuits a node sends is read from its row
 pub row-sends : (node : ℕ) (t : Channels) → length (rowOf node (entries t)) ≡ sends node (circuits t)
 row-sends node t = row-tally node (entries t) ∙ entries-circuits t (λ c. bit (eqb (c .source) node))
-
--- ---- the order
 
 -- what holds of each entry holds of each of the row, and these are of the node
 pub row-all : (P : Standing → Type 0) (node : ℕ) (es : List Standing) → All P es → All (λ m. P m × (m .circuit .source ≡ node)) (rowOf node es)
@@ -193,8 +187,6 @@ pub row-rises : (N : ℕ) (ks : List ℕ) (t : Channels) → Rules N ks t → Ty
 row-rises N ks t rules typed node =
     row-numbered node (entries t) (entries-ordered t) (all-map Written InFields (λ m w. w .0) (entries t) (entries-written N ks t rules typed))
     (λ k. omega (arith, entries-circuits t (λ c. bit (eqb (c .number) k)), distinct-most (λ c. c .number) (circuits t) (rules .numbers) k))
-
--- ---- a number in the row
 
 -- a key is that of a node and a number where the entry has them
 key-entry : (node number : ℕ) (m : Standing) → number < 2 ^ 32 → inFields (m .circuit) ≡ true

@@ -5,6 +5,7 @@ ghost use Prim.Native.Nat.{_≤_};
 ghost use lib.ListN.{length, take};
 ghost use Rattle.entries.specs.Lists.{Rising};
 ghost use Rattle.rows.specs.Row.{rowIn, positionIn};
+use entries::NEXT_ROW;
 
 // The row of a node: from the entry at `start` to the one before `end`.
 pub struct Row {
@@ -19,7 +20,7 @@ pub fn row_of(keys: &[u64], count: usize, node: u8) -> Row
 {
     let first = entries::row_key(node);
     let start = entries::rank(keys, count, first);
-    let end = entries::rank(keys, count, first + 4294967296);
+    let end = entries::rank(keys, count, first + NEXT_ROW);
     Row { start, end }
 }
 

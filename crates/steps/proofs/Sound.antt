@@ -10,7 +10,7 @@ use lib.ListN.{length}
 use borrow.Author.Tests.{eqb-true, eq-eqb, ne-eqb, lt-ltb}
 use Rattle.basis.specs.Choice.{bit}
 use Rattle.basis.specs.Count.{weigh, tally, distinct, All}
-use Rattle.basis.proofs.Bools.{and-false, bit-eq, all-map, all-and}
+use Rattle.basis.proofs.Bools.{and-false, bit-eq, bit-passes, all-map, all-and}
 use Rattle.basis.proofs.Weigh.{weigh-append, none-weigh, ones-weigh, weigh-zero, counted, distinct-most, most-distinct}
 use Rattle.limits.specs.Limits.{placeCount}
 use Rattle.lightpath.specs.declared.Circuit.{Circuit}
@@ -82,11 +82,7 @@ shift-length (s ∷ ss) = ap suc (shift-length ss)
 
 -- a difference counted as none is none, and back
 bit-zero : (m n : ℕ) → bit (not (eqb m n)) ≡ 0 → m ≡ n
-bit-zero m n h = eqb-true m n (go (eqb m n) h)
-  where
-    go : (b : Bool) → bit (not b) ≡ 0 → b ≡ true
-    go true e = refl
-    go false e = absurd (omega arith)
+bit-zero m n h = eqb-true m n (bit-passes (eqb m n) h)
 
 zero-bit : (m n : ℕ) → m ≡ n → bit (not (eqb m n)) ≡ 0
 zero-bit m n e = rw (eq-eqb m n e)

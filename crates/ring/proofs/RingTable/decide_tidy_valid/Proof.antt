@@ -10,12 +10,12 @@ refuse-tidy-requires c κs = search needs
 returns : tie.Need-returns
 returns c = tidies-valid _ _ _ (tidy-short _ _ (search needs) _ (search needs) (search needs)) (search needs)
 
-join-up-requires : tie.Need-join-up-requires
-join-up-requires c κs = search needs
+tidy-rounds-requires : tie.Need-tidy-rounds-requires
+tidy-rounds-requires c κs = search needs
 
 returns-2 : tie.Need-returns-2
 returns-2 c = tidies-valid _ _ _ (tidy-long _ _ (search needs) _ (search needs) (search needs)) (search needs)
 
 pub decide-tidy-valid-spec : {M : Type 1} → statement M
 decide-tidy-valid-spec =
-    tie.close (tie.spec refuse-tidy-requires returns join-up-requires returns-2)
+    tie.close (tie.spec refuse-tidy-requires returns tidy-rounds-requires returns-2)
