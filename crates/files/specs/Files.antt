@@ -15,9 +15,9 @@ Within Failed l = Unit {0}
 abbrev pub longestName : ℕ
 longestName = 4095
 
--- the bytes of the ending of a new file's name, `.ringplan-new`
+-- the bytes of the ending of a new file's name, `.ringplan-XXXXXX`
 abbrev pub ending : ℕ
-ending = 13
+ending = 16
 
 -- the new file's name has its ending too
 abbrev pub longestPath : ℕ
