@@ -1,4 +1,5 @@
 -- `buffer::put_text` meets its contract: what is still to be written is the text from i on. Assumes nothing.
+-- Made by tools/proofs from its invariants and measures: every need is `search (needs, copying)`.
 use Prim.Native.Nat.{_-_}
 use lib.ListN.{length}
 use borrow.Author.Needs.{needs}

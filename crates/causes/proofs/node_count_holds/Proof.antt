@@ -1,4 +1,5 @@
 -- `causes::node_count_holds` meets its contract. Assumes nothing.
+-- Made by tools/proofs: every need is `search (needs, le-leb, lt-leb)`.
 use borrow.Author.Needs.{needs}
 use borrow.Author.Tests.{le-leb, lt-leb}
 use Rattle.causes.proofs.node_count_holds.Statement.{statement}

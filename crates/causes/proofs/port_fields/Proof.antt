@@ -1,4 +1,5 @@
 -- `causes::port_fields` meets its contract: the fields before i are the list's, and those from i on are zero. Assumes nothing.
+-- Made by tools/proofs from its invariants and measures: every need is `search (needs, filled)`.
 use Rattle.causes.proofs.Fields.{Filled, filled}
 use Prim.Native.Nat.{_≤_, _-_}
 use mathlib.Core.Path.{_≡_}

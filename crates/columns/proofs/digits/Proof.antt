@@ -1,4 +1,5 @@
 -- `columns::digits` meets its contract: the digits but for those of the rest are counted. Assumes nothing.
+-- Made by tools/proofs from its invariants and measures: every need is `search (needs, counting)`.
 use borrow.Author.Needs.{needs}
 use Rattle.columns.proofs.DigitCount.{Counting, counting}
 use Rattle.columns.proofs.digits.Statement.{statement}

@@ -1,4 +1,5 @@
 -- `commands::by_first` meets its contract. Assumes nothing.
+-- Made by tools/proofs: every need is `search (needs, firsts)`.
 use borrow.Author.Needs.{needs}
 use Rattle.commands.proofs.Fields.{firsts}
 use Rattle.commands.proofs.by_first.Statement.{statement}

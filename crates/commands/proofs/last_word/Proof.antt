@@ -1,4 +1,5 @@
 -- `commands::last_word` meets its contract. Assumes nothing.
+-- Made by tools/proofs: every need is `search (needs, last)`.
 use borrow.Author.Needs.{needs}
 use Rattle.commands.proofs.Last.{last}
 use Rattle.commands.proofs.last_word.Statement.{statement}

@@ -1,4 +1,5 @@
 -- `commands::parse_read` meets its contract. Assumes nothing.
+-- Made by tools/proofs: every need is `search (needs, words)`.
 use borrow.Author.Needs.{needs}
 use Rattle.commands.proofs.Fields.{words}
 use Rattle.commands.proofs.parse_read.Statement.{statement}

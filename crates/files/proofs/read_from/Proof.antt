@@ -1,4 +1,5 @@
 -- `files::read_from` meets its contract: what was read so far is within the lent bytes. Assumes nothing.
+-- Made by tools/proofs from its invariants and measures: every need is `search needs`.
 use Prim.Native.Nat.{_-_, _≤_}
 use mathlib.Core.Path.{_≡_}
 use lib.ListN.{length}

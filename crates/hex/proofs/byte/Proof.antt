@@ -1,4 +1,5 @@
 -- `hex::byte` meets its contract. Assumes nothing.
+-- Made by tools/proofs: every need is `search (needs, bytes)`.
 use borrow.Author.Needs.{needs}
 use Rattle.hex.proofs.Reading.{bytes}
 use Rattle.hex.proofs.byte.Statement.{statement}

@@ -1,4 +1,5 @@
 -- `hex::digit` meets its contract. Assumes nothing.
+-- Made by tools/proofs: every need is `search (needs, digits)`.
 use borrow.Author.Needs.{needs}
 use Rattle.hex.proofs.OneDigit.{digits}
 use Rattle.hex.proofs.digit.Statement.{statement}

@@ -1,4 +1,5 @@
 -- `hex::put_hex` meets its contract: what is still to be written is the bytes from i on. Assumes nothing.
+-- Made by tools/proofs from its invariants and measures: every need is `search (needs, hexing)`.
 use Prim.Native.Nat.{_-_}
 use lib.ListN.{length}
 use borrow.Author.Needs.{needs}

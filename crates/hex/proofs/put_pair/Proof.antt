@@ -1,4 +1,5 @@
 -- `hex::put_pair` meets its contract. Assumes nothing.
+-- Made by tools/proofs: every need is `search (needs, pairing)`.
 use borrow.Author.Needs.{needs}
 use Rattle.hex.proofs.Writing.{pairing}
 use Rattle.hex.proofs.put_pair.Statement.{statement}

@@ -1,4 +1,5 @@
 -- `hex::read_hex` meets its contract: up to i the text is digits. Assumes nothing.
+-- Made by tools/proofs from its invariants and measures: every need is `search (needs, unhexing)`.
 use Prim.Native.Nat.{_-_}
 use lib.ListN.{length}
 use borrow.Author.Needs.{needs}

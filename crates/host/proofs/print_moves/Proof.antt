@@ -1,4 +1,5 @@
 -- `host::print_moves` meets its contract. Assumes nothing.
+-- Made by tools/proofs from its invariants and measures: every need is `search needs`.
 use Prim.Native.Nat.{_≤_, _-_}
 use borrow.Author.Needs.{needs}
 use Rattle.host.proofs.print_moves.Statement.{statement}

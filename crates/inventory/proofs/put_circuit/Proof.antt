@@ -1,4 +1,5 @@
 -- `inventory::put_circuit` meets its contract. Assumes nothing.
+-- Made by tools/proofs: every need is `search (needs, circuit)`.
 use borrow.Author.Needs.{needs}
 use Rattle.inventory.proofs.Words.{circuit}
 use Rattle.inventory.proofs.put_circuit.Statement.{statement}

@@ -1,4 +1,5 @@
 -- `inventory::put_circuits` meets its contract. Assumes nothing.
+-- Made by tools/proofs: every need is `search (needs, all-circuits)`.
 use borrow.Author.Needs.{needs}
 use Rattle.inventory.proofs.Places.{all-circuits}
 use Rattle.inventory.proofs.put_circuits.Statement.{statement}

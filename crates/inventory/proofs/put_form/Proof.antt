@@ -1,4 +1,5 @@
 -- `inventory::put_form` meets its contract. Assumes nothing.
+-- Made by tools/proofs: every need is `search (needs, form)`.
 use borrow.Author.Needs.{needs}
 use Rattle.inventory.proofs.Words.{form}
 use Rattle.inventory.proofs.put_form.Statement.{statement}

@@ -1,4 +1,5 @@
 -- `inventory::put_load` meets its contract. Assumes nothing.
+-- Made by tools/proofs: every need is `search (needs, lines)`.
 use borrow.Author.Needs.{needs}
 use Rattle.inventory.proofs.Words.{lines}
 use Rattle.inventory.proofs.put_load.Statement.{statement}

@@ -1,4 +1,5 @@
 -- `inventory::put_loads` meets its contract. Assumes nothing.
+-- Made by tools/proofs: every need is `search (needs, load)`.
 use borrow.Author.Needs.{needs}
 use Rattle.inventory.proofs.Loads.{load}
 use Rattle.inventory.proofs.put_loads.Statement.{statement}

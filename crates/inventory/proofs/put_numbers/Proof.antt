@@ -1,4 +1,5 @@
 -- `inventory::put_numbers` meets its contract: what is still to be printed is the loads from i on. Assumes nothing.
+-- Made by tools/proofs from its invariants and measures: every need is `search (needs, loading)`.
 use Prim.Native.Nat.{_-_}
 use lib.ListN.{length}
 use borrow.Author.Needs.{needs}

@@ -1,4 +1,5 @@
 -- `inventory::put_slot` meets its contract. Assumes nothing.
+-- Made by tools/proofs: every need is `search (needs, slot)`.
 use borrow.Author.Needs.{needs}
 use Rattle.inventory.proofs.Places.{slot}
 use Rattle.inventory.proofs.put_slot.Statement.{statement}

@@ -1,4 +1,5 @@
 -- `link_question::way` meets its contract. Assumes nothing.
+-- Made by tools/proofs: every need is `search (needs, branch)`.
 use Rattle.basis.proofs.Branch.{branch}
 use borrow.Author.Needs.{needs}
 use Rattle.link_question.proofs.way.Statement.{statement}

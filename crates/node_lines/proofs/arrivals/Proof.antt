@@ -1,4 +1,5 @@
 -- `node_lines::arrivals` meets its contract: the places below p are copied. Assumes nothing.
+-- Made by tools/proofs from its invariants and measures: every need is `search (needs, copying)`.
 use Prim.Native.Nat.{_-_}
 use borrow.Author.Needs.{needs}
 use Rattle.limits.specs.Limits.{placeCount}

@@ -1,4 +1,5 @@
 -- `node_lines::put_node_lines` meets its contract: what is still to be printed is the nodes after node i. Assumes nothing.
+-- Made by tools/proofs from its invariants and measures: every need is `search (needs, naming)`.
 use Prim.Native.Nat.{_-_}
 use borrow.Author.Needs.{needs}
 use Rattle.node_lines.proofs.Nodes.{Naming, naming}

@@ -1,4 +1,5 @@
 -- `pairs::first_in` meets its contract. The loop's invariant: none of the first `i` stands in the direction. Assumes nothing.
+-- Made by tools/proofs from its invariants and measures: every need is `search (needs, lane)`.
 use Prim.Native.Nat.{_-_, _≤_}
 use Rattle.pairs.proofs.Lane.{Passing, lane}
 use borrow.Author.Needs.{needs}

@@ -1,4 +1,5 @@
 -- `picture::column_width` meets its contract: the places below were looked at. Assumes nothing.
+-- Made by tools/proofs from its invariants and measures: every need is `search (needs, array-length)`.
 use Prim.Native.Nat.{_-_, _≤_}
 use borrow.Author.Needs.{needs}
 use Rattle.limits.specs.Limits.{placeCount}

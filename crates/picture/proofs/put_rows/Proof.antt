@@ -1,4 +1,5 @@
 -- `picture::put_rows` meets its contract: i rows are put. Assumes nothing.
+-- Made by tools/proofs from its invariants and measures: every need is `search (needs, appending, limits)`.
 use Prim.Native.Nat.{_+_, _-_, _*_, _≤_}
 use mathlib.Core.Path.{_≡_}
 use lib.ListN.{length}

@@ -1,4 +1,5 @@
 -- `ports::sum_of` meets its contract. Assumes nothing.
+-- Made by tools/proofs from its invariants and measures: every need is `search (needs, fold)`.
 use Prim.Native.Nat.{_≤_, _*_, _-_}
 use lib.ListN.{getD}
 use borrow.Author.Needs.{needs}

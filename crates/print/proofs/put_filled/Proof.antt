@@ -1,5 +1,6 @@
 -- `print::put_filled` meets its contract. The loop's invariant: what is still to be printed is the words from i on, with the numbers
 -- left. Assumes nothing.
+-- Made by tools/proofs from its invariants and measures: every need is `search (needs, filling)`.
 use Prim.Native.Nat.{_-_}
 use lib.ListN.{length}
 use borrow.Author.Needs.{needs}

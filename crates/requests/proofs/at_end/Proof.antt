@@ -1,4 +1,5 @@
 -- `requests::at_end` meets its contract. Assumes nothing.
+-- Made by tools/proofs: every need is `search (needs, parsing)`.
 use borrow.Author.Needs.{needs}
 use Rattle.words.proofs.Parse.{parsing}
 use Rattle.requests.proofs.at_end.Statement.{statement}

@@ -1,4 +1,5 @@
 -- `ring_bench::number_of` meets its contract. Assumes nothing.
+-- Made by tools/proofs from its invariants and measures: every need is `search needs`.
 use Prim.Native.Nat.{_≤_, _-_}
 use borrow.Author.Needs.{needs}
 use Rattle.ring_bench.proofs.number_of.Statement.{statement}

@@ -1,4 +1,5 @@
 -- `ringctl::failed` meets its contract. Assumes nothing.
+-- Made by tools/proofs: every need is `search (needs, below0-is)`.
 use borrow.Author.Needs.{needs}
 use Rattle.ringctl.proofs.Turns.{below0-is}
 use Rattle.ringctl.proofs.failed.Statement.{statement}

@@ -1,5 +1,6 @@
 -- `ringctl::run` meets its contract. The loop's invariant: the session is one that `start` and some `feed`s lead to, and the lent
 -- bytes keep their length. Assumes nothing.
+-- Made by tools/proofs from its invariants and measures: every need is `search (needs, turns)`.
 use mathlib.Core.Path.{_≡_}
 use lib.ListN.{length}
 use borrow.Author.Needs.{needs}

@@ -1,4 +1,5 @@
 -- `ringplan::end_input` meets its contract. Assumes nothing.
+-- Made by tools/proofs: every need is `search (needs, finishing)`.
 use borrow.Author.Needs.{needs}
 use Rattle.ringplan.proofs.Turns.{finishing}
 use Rattle.ringplan.proofs.end_input.Statement.{statement}

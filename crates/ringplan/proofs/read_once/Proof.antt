@@ -1,4 +1,5 @@
 -- `ringplan::read_once` meets its contract. Assumes nothing.
+-- Made by tools/proofs: every need is `search (needs, reading)`.
 use borrow.Author.Needs.{needs}
 use Rattle.ringplan.proofs.Turns.{reading}
 use Rattle.ringplan.proofs.read_once.Statement.{statement}

@@ -1,4 +1,5 @@
 -- `roster_rows::gather` meets its contract. Assumes nothing.
+-- Made by tools/proofs from its invariants and measures: every need is `search (needs, gathering)`.
 use Prim.Native.Nat.{_-_}
 use lib.ListN.{length}
 use borrow.Author.Needs.{needs}

@@ -1,4 +1,5 @@
 -- `roster_survey::find_join` meets its contract: `found` is the entry to join of those before i. Assumes nothing.
+-- Made by tools/proofs from its invariants and measures: every need is `search (needs, finding)`.
 use Prim.Native.Nat.{_-_}
 use Rattle.roster_survey.proofs.Lowest.{Finding, finding}
 use borrow.Author.Needs.{needs}

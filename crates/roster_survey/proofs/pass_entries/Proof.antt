@@ -1,4 +1,5 @@
 -- `roster_survey::pass_entries` meets its contract: `seen` is what the entries before i have. Assumes nothing.
+-- Made by tools/proofs from its invariants and measures: every need is `search (needs, passing)`.
 use Prim.Native.Nat.{_-_}
 use Rattle.roster_survey.proofs.Passing.{Passing, passing}
 use borrow.Author.Needs.{needs}

@@ -1,4 +1,5 @@
 -- `rounds::carry_out` meets its contract. Assumes nothing.
+-- Made by tools/proofs: every need is `search (needs, carrying)`.
 use Rattle.rounds.proofs.Midway.{carrying}
 use borrow.Author.Needs.{needs}
 use Rattle.rounds.proofs.carry_out.Statement.{statement}

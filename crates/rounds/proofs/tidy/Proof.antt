@@ -1,5 +1,6 @@
 -- `rounds::tidy` meets its contract. What is done and the rounds left are the tidying; each round leaves two circuits fewer alone, which is
 -- why it ends. Assumes nothing.
+-- Made by tools/proofs from its invariants and measures: every need is `search (needs, midway)`.
 use mathlib.Core.Path.{_≡_}
 use lib.ListN.{length}
 use Rattle.limits.specs.Limits.{placeCount}

@@ -1,4 +1,5 @@
 -- `row_lines::put_entries` meets its contract: what is still to be printed is the entries from i on. Assumes nothing.
+-- Made by tools/proofs from its invariants and measures: every need is `search (needs, sending)`.
 use Prim.Native.Nat.{_-_}
 use lib.ListN.{length}
 use borrow.Author.Needs.{needs}

@@ -1,4 +1,5 @@
 -- `row_lines::put_from` meets its contract: the entries from the start of the node's row to its end are its own. Assumes nothing.
+-- Made by tools/proofs: every need is `search (needs, held, from)`.
 use borrow.Author.Needs.{needs}
 use Rattle.rows.proofs.Held.{held}
 use Rattle.row_lines.proofs.Words.{from}

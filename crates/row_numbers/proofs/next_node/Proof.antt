@@ -1,4 +1,5 @@
 -- `row_numbers::next_node` meets its contract. Assumes nothing.
+-- Made by tools/proofs: every need is `search (needs, branch)`.
 use borrow.Author.Needs.{needs}
 use Rattle.basis.proofs.Branch.{branch}
 use Rattle.row_numbers.proofs.next_node.Statement.{statement}

@@ -1,4 +1,5 @@
 -- `saved_forms::read_word` meets its contract. Assumes nothing.
+-- Made by tools/proofs: every need is `search (needs, forms)`.
 use borrow.Author.Needs.{needs}
 use Rattle.saved_forms.proofs.Forms.{forms}
 use Rattle.saved_forms.proofs.read_word.Statement.{statement}

@@ -1,4 +1,5 @@
 -- `survey::survey_places` meets its contract. The loop's invariant: `seen` is what the places from `place` on have. Assumes nothing.
+-- Made by tools/proofs from its invariants and measures: every need is `search (needs, seen)`.
 use Prim.Native.Nat.{_≤_}
 use Rattle.limits.specs.Limits.{placeCount}
 use Rattle.survey.proofs.Seen.{Seen, seen}

@@ -1,4 +1,5 @@
 -- `text::read_number` meets its contract. The loop's invariant: the bytes before i are digits, of the value, which is at most the most. Assumes nothing.
+-- Made by tools/proofs from its invariants and measures: every need is `search (needs, reading)`.
 use Prim.Native.Nat.{_-_}
 use lib.ListN.{length}
 use borrow.Author.Needs.{needs}

@@ -1,4 +1,5 @@
 -- `text::read_signed` meets its contract. Assumes nothing.
+-- Made by tools/proofs: every need is `search (needs, signs)`.
 use borrow.Author.Needs.{needs}
 use Rattle.text.proofs.Sign.{signs}
 use Rattle.text.proofs.read_signed.Statement.{statement}

@@ -1,4 +1,5 @@
 -- `words::read_field` meets its contract. Assumes nothing.
+-- Made by tools/proofs: every need is `search (needs, fields)`.
 use borrow.Author.Needs.{needs}
 use Rattle.words.proofs.Fields.{fields}
 use Rattle.words.proofs.read_field.Statement.{statement}

@@ -1,4 +1,5 @@
 -- `words::read_signed_field` meets its contract. Assumes nothing.
+-- Made by tools/proofs: every need is `search (needs, signedFields)`.
 use borrow.Author.Needs.{needs}
 use Rattle.words.proofs.SignedFields.{signedFields}
 use Rattle.words.proofs.read_signed_field.Statement.{statement}

@@ -1,4 +1,5 @@
 -- `words::same_text` meets its contract. The loop's invariant: up to i the texts are the same, and they have one length. Assumes nothing.
+-- Made by tools/proofs from its invariants and measures: every need is `search (needs, agreeing)`.
 use Prim.Native.Nat.{_-_}
 use lib.ListN.{length}
 use borrow.Author.Needs.{needs}

@@ -1,4 +1,5 @@
 -- `words::word_end` meets its contract. The loop's invariant: from the position up to i there is no space. Assumes nothing.
+-- Made by tools/proofs from its invariants and measures: every need is `search (needs, seeking)`.
 use Prim.Native.Nat.{_-_}
 use lib.ListN.{length}
 use borrow.Author.Needs.{needs}

@@ -1,4 +1,5 @@
 -- `words::word_index` meets its contract. The loop's invariant: the words before the position are others. Assumes nothing.
+-- Made by tools/proofs from its invariants and measures: every need is `search (needs, indexing)`.
 use Prim.Native.Nat.{suc, _-_}
 use lib.ListN.{length}
 use borrow.Author.Needs.{needs}

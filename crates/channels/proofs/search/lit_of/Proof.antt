@@ -1,4 +1,5 @@
 -- `channels::search::lit_of` meets its contract. The loop's invariant: the words hold the lit places from `p` on. Assumes nothing.
+-- Made by tools/proofs from its invariants and measures: every need is `search (needs, built)`.
 use Prim.Native.Nat.{_≤_}
 use Rattle.limits.specs.Limits.{placeCount}
 use Rattle.lit_words.proofs.Built.{Built, built}

@@ -1,4 +1,5 @@
 -- `channels::search::where_is` meets its contract: no place before p holds the number. Assumes nothing.
+-- Made by tools/proofs from its invariants and measures: every need is `search (needs, scan)`.
 use Prim.Native.Nat.{_-_, _≤_}
 use mathlib.Core.Bool.{false}
 use Rattle.basis.proofs.Scan.{Passed, scan}

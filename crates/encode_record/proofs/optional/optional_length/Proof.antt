@@ -1,4 +1,5 @@
 -- `encode_record::optional::optional_length` meets its contract. Assumes nothing.
+-- Made by tools/proofs: every need is `search (needs, optionalLengths)`.
 use borrow.Author.Needs.{needs}
 use Rattle.encode_record.proofs.Lengths.{optionalLengths}
 use Rattle.encode_record.proofs.optional.optional_length.Statement.{statement}

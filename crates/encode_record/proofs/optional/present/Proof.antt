@@ -1,4 +1,5 @@
 -- `encode_record::optional::present` meets its contract. Assumes nothing.
+-- Made by tools/proofs: every need is `search (needs, branch)`.
 use borrow.Author.Needs.{needs}
 use Rattle.basis.proofs.Branch.{branch}
 use Rattle.encode_record.proofs.optional.present.Statement.{statement}

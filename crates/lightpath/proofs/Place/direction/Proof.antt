@@ -1,4 +1,5 @@
 -- `lightpath::Place::direction` meets its contract. Assumes nothing.
+-- Made by tools/proofs: every need is `search (needs, branch)`.
 use borrow.Author.Needs.{needs}
 use Rattle.basis.proofs.Branch.{branch}
 use Rattle.lightpath.proofs.Place.direction.Statement.{statement}

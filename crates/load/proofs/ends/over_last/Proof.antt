@@ -1,4 +1,5 @@
 -- `load::ends::over_last` meets its contract. Assumes nothing.
+-- Made by tools/proofs: every need is `search (needs, ending)`.
 use borrow.Author.Needs.{needs}
 use Rattle.load.proofs.Counting.{ending}
 use Rattle.load.proofs.ends.over_last.Statement.{statement}

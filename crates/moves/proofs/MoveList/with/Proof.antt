@@ -1,4 +1,5 @@
 -- `moves::MoveList::with` meets its contract. Assumes nothing.
+-- Made by tools/proofs: every need is `search (needs, appending)`.
 use borrow.Author.Needs.{needs}
 use Rattle.moves.proofs.Appending.{appending}
 use Rattle.moves.proofs.MoveList.with.Statement.{statement}

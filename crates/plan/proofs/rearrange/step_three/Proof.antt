@@ -1,4 +1,5 @@
 -- `plan::rearrange::step_three` meets its contract. Assumes nothing.
+-- Made by tools/proofs: every need is `search (needs, rearranged)`.
 use Rattle.plan.proofs.Chosen.{rearranged}
 use borrow.Author.Needs.{needs}
 use Rattle.plan.proofs.rearrange.step_three.Statement.{statement}

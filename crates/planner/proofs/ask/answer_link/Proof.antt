@@ -1,4 +1,5 @@
 -- `planner::ask::answer_link` meets its contract. Assumes nothing.
+-- Made by tools/proofs: every need is `search (needs, lines)`.
 use borrow.Author.Needs.{needs}
 use Rattle.planner.proofs.Lines.{lines}
 use Rattle.planner.proofs.ask.answer_link.Statement.{statement}

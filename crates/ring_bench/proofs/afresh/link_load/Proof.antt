@@ -1,4 +1,5 @@
 -- `ring_bench::afresh::link_load` meets its contract: the sum is that of the wavelengths below w. Assumes nothing.
+-- Made by tools/proofs from its invariants and measures: every need is `search (needs, counting)`.
 use Prim.Native.Nat.{_-_}
 use Rattle.limits.specs.Limits.{mostWavelengths}
 use Rattle.ring_bench.proofs.Counted.{Counted, counting}

@@ -1,4 +1,5 @@
 -- `ring_bench::lookups::by_rows` meets its contract: the roster holds the table. Assumes nothing.
+-- Made by tools/proofs: every need is `search (needs, lookedUp)`.
 use Rattle.ring_bench.proofs.Rowed.{lookedUp}
 use borrow.Author.Needs.{needs}
 use Rattle.ring_bench.proofs.lookups.by_rows.Statement.{statement}

@@ -1,4 +1,5 @@
 -- `ring_bench::lookups::repeat` meets its contract: all nodes are looked up i times. Assumes nothing.
+-- Made by tools/proofs from its invariants and measures: every need is `search (needs, repeated)`.
 use Prim.Native.Nat.{_-_}
 use Rattle.roster.specs.Roster.{entries, placesOf}
 use Rattle.ring_bench.proofs.Rowed.{Repeated, repeated}

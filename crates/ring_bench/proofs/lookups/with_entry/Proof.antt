@@ -1,4 +1,5 @@
 -- `ring_bench::lookups::with_entry` meets its contract. Assumes nothing.
+-- Made by tools/proofs: every need is `search (needs, summed)`.
 use Rattle.ring_bench.proofs.Rowed.{summed}
 use borrow.Author.Needs.{needs}
 use Rattle.ring_bench.proofs.lookups.with_entry.Statement.{statement}

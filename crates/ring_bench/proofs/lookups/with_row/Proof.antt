@@ -1,4 +1,5 @@
 -- `ring_bench::lookups::with_row` meets its contract: what is still to be summed is the entries from i on. Assumes nothing.
+-- Made by tools/proofs from its invariants and measures: every need is `search (needs, summing)`.
 use Prim.Native.Nat.{_-_}
 use lib.ListN.{length}
 use Rattle.ring_bench.proofs.Rowed.{Summing, summing}

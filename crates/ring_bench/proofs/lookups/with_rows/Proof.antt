@@ -1,4 +1,5 @@
 -- `ring_bench::lookups::with_rows` meets its contract: the rows of the nodes up to `node` are summed. Assumes nothing.
+-- Made by tools/proofs from its invariants and measures: every need is `search (needs, held, rowsAll, rowed)`.
 use Prim.Native.Nat.{_-_}
 use Rattle.roster.specs.Roster.{entries, placesOf}
 use Rattle.rows.proofs.Held.{held}

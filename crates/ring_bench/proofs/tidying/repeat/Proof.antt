@@ -1,4 +1,5 @@
 -- `ring_bench::tidying::repeat` meets its contract: each tidying gives the same. Assumes nothing.
+-- Made by tools/proofs from its invariants and measures: every need is `search needs`.
 use Prim.Native.Nat.{_-_}
 use mathlib.Core.Path.{_≡_}
 use Rattle.limits.specs.Limits.{tidyRecords}

@@ -1,4 +1,5 @@
 -- `ringplan::input::finish` meets its contract. Assumes nothing.
+-- Made by tools/proofs: every need is `search (needs, ending)`.
 use borrow.Author.Needs.{needs}
 use Rattle.ringplan.proofs.Turns.{ending}
 use Rattle.ringplan.proofs.input.finish.Statement.{statement}

@@ -1,4 +1,5 @@
 -- `ringplan::input::take_in` meets its contract. The loop's invariant: the first bytes of the chunk are taken in and answered. Assumes nothing.
+-- Made by tools/proofs from its invariants and measures: every need is `search (needs, intaking)`.
 use borrow.Author.Needs.{needs}
 use Prim.Native.Nat.{_-_}
 use lib.ListN.{length}

@@ -1,4 +1,5 @@
 -- `roster::same_list` meets its contract. The loop's invariant: the lists are equal if they are from position i on. Assumes nothing.
+-- Made by tools/proofs from its invariants and measures: every need is `search (needs, comparing)`.
 use borrow.Author.Needs.{needs}
 use Prim.Native.Nat.{_-_}
 use lib.ListN.{length}

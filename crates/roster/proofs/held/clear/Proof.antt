@@ -1,4 +1,5 @@
 -- `roster::clear` meets its contract. The loop's invariant: the first i numbers are 0. Assumes nothing.
+-- Made by tools/proofs from its invariants and measures: every need is `search (needs, clearing)`.
 use borrow.Author.Needs.{needs}
 use Prim.Native.Nat.{_-_}
 use lib.ListN.{length}

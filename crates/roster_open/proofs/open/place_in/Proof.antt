@@ -1,4 +1,5 @@
 -- `roster_open::place_in` meets its contract. Assumes nothing.
+-- Made by tools/proofs: every need is `search needs`.
 use borrow.Author.Needs.{needs}
 use Rattle.roster_open.proofs.open.place_in.Statement.{statement}
 use Rattle.roster_open.proofs.open.place_in.Tie as tie

@@ -1,4 +1,5 @@
 -- `rounds::join::shared` meets its contract. Assumes nothing.
+-- Made by tools/proofs: every need is `search (needs, made)`.
 use Rattle.rounds.proofs.Made.{made}
 use borrow.Author.Needs.{needs}
 use Rattle.rounds.proofs.join.shared.Statement.{statement}

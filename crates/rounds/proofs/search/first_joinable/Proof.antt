@@ -1,5 +1,6 @@
 -- `rounds::search::first_joinable` meets its contract. What is found among all pairs is found among those from the row, or the pair, on.
 -- Assumes nothing.
+-- Made by tools/proofs from its invariants and measures: every need is `search (needs, seek)`.
 use Prim.Native.Nat.{_-_, _≤_, _<_}
 use Rattle.rounds.specs.Search.{joinableIn}
 use Rattle.rounds.proofs.Seek.{AtRow, AtPair, seek}

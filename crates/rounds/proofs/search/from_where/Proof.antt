@@ -1,4 +1,5 @@
 -- `rounds::search::from_where` meets its contract. Assumes nothing.
+-- Made by tools/proofs: every need is `search (needs, branch)`.
 use Rattle.basis.proofs.Branch.{branch}
 use borrow.Author.Needs.{needs}
 use Rattle.rounds.proofs.search.from_where.Statement.{statement}

@@ -1,4 +1,5 @@
 -- `rounds::search::joinable` meets its contract. Assumes nothing.
+-- Made by tools/proofs: every need is `search (needs, joining)`.
 use Rattle.rounds.proofs.Seek.{joining}
 use borrow.Author.Needs.{needs}
 use Rattle.rounds.proofs.search.joinable.Statement.{statement}

@@ -1,4 +1,5 @@
 -- `rounds::search::next_round` meets its contract. Assumes nothing.
+-- Made by tools/proofs: every need is `search (needs, finding)`.
 use Rattle.rounds.proofs.Finding.{finding}
 use borrow.Author.Needs.{needs}
 use Rattle.rounds.proofs.search.next_round.Statement.{statement}

@@ -1,4 +1,5 @@
 -- `rounds::unlit::comes_below` meets its contract. Assumes nothing.
+-- Made by tools/proofs: every need is `search (needs, branch)`.
 use Rattle.basis.proofs.Branch.{branch}
 use borrow.Author.Needs.{needs}
 use Rattle.rounds.proofs.unlit.comes_below.Statement.{statement}

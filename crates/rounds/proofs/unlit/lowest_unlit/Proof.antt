@@ -1,4 +1,5 @@
 -- `rounds::unlit::lowest_unlit` meets its contract. No place below `p` is unlit and of the direction. Assumes nothing.
+-- Made by tools/proofs from its invariants and measures: every need is `search (needs, scan)`.
 use Prim.Native.Nat.{_-_, _≤_}
 use mathlib.Core.Bool.{false, _&&_}
 use Rattle.basis.proofs.Scan.{Passed, scan}

@@ -1,4 +1,5 @@
 -- `rounds::unlit::room_of` meets its contract. Assumes nothing.
+-- Made by tools/proofs: every need is `search (needs, finding)`.
 use Rattle.rounds.proofs.Finding.{finding}
 use borrow.Author.Needs.{needs}
 use Rattle.rounds.proofs.unlit.room_of.Statement.{statement}

@@ -1,4 +1,5 @@
 -- `rules::numbers::all_distinct` meets its contract. Assumes nothing.
+-- Made by tools/proofs from its invariants and measures: every need is `search (needs, apart)`.
 use Prim.Native.Nat.{_≤_, _<_, _-_}
 use borrow.Author.Needs.{needs}
 use Rattle.rules.proofs.Distinct.{Told, Compared, apart}

@@ -1,4 +1,5 @@
 -- `rules::numbers::numbers_of` meets its contract. Assumes nothing.
+-- Made by tools/proofs from its invariants and measures: every need is `search (needs, beside)`.
 use Prim.Native.Nat.{_≤_, _-_}
 use borrow.Author.Needs.{needs}
 use Rattle.rules.proofs.Distinct.{Beside, beside}

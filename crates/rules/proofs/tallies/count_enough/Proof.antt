@@ -1,4 +1,5 @@
 -- `rules::tallies::count_enough` meets its contract. Assumes nothing.
+-- Made by tools/proofs: every need is `search (needs, branch)`.
 use borrow.Author.Needs.{needs}
 use Rattle.basis.proofs.Branch.{branch}
 use Rattle.rules.proofs.tallies.count_enough.Statement.{statement}

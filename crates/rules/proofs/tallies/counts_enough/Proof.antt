@@ -1,4 +1,5 @@
 -- `rules::tallies::counts_enough` meets its contract. Assumes nothing.
+-- Made by tools/proofs from its invariants and measures: every need is `search (needs, scan)`.
 use Prim.Native.Nat.{_≤_, _-_}
 use mathlib.Core.Bool.{true}
 use borrow.Author.Needs.{needs}

@@ -1,4 +1,5 @@
 -- `slots::Slot::together` meets its contract. Assumes nothing.
+-- Made by tools/proofs: every need is `search (needs, branch)`.
 use Rattle.basis.proofs.Branch.{branch}
 use borrow.Author.Needs.{needs}
 use Rattle.slots.proofs.Slot.together.Statement.{statement}
