@@ -34,6 +34,6 @@ computed : map (λ c. answerTo (c .asked)) cases ≡ map (λ c. c .expected) cas
 unfolding ahead word noneLitFrom makeOf decideOf closeOf decideTidyOf tidyWithin unlitPlace planOf formOf mapBytes recordsBytes recordBytes fieldMap circuitBytes highFirst optionalBytes bitOf numberFrom readOf readTable readRecordsBy readPlaceBy readSecond mapHolds readCircuit readOptional mapBit readPorts tunedOf carriedOf frequencyAt wavelengthAt users lightpathsBelow loadsTo reportOf keyOf restOf entryOf entries arranged tableOf stands builtOf tableBuilt rowOfRoster circuitOfRoster fronted checkedBy readRecordBy readMapBy
 computed = refl
 
--- so each of its cases holds
+-- 01: "Cases marked P are proved in a table with one theorem for all": the cases of 01 and 02
 pub cases-hold : All Holds cases
 cases-hold = each cases computed

@@ -19,7 +19,7 @@ use Rattle.lit_words.specs.Unlit.{unlitIn}
 use Rattle.lit_words.proofs.LitBits.{words-say}
 use Rattle.channels.specs.Channels.{Channels, at, litPlaces, litAt, litOf}
 
--- the lowest unlit place of a direction below a limit, by the words, is the table's
+-- Law: the lowest unlit place of a direction below a limit, by the words, is the table's
 pub unlit-words : (t : Channels) (d : Direction) (m : ℕ) → m ≤ placeCount
     → unlitIn (litOf t) d m ≡ firstBelow m (λ p. isUnlit (at t p) && sameDirection (directionOf p) d)
 unfolding unlitIn
@@ -32,7 +32,7 @@ lit-all : (t : Channels) → countBelow (length t) (litAt t) ≡ litPlaces t
 lit-all [] = refl
 lit-all (ch ∷ t) = ap (λ (n : ℕ). bit (isLit (ch .slot)) + n) (lit-all t)
 
--- the words count the lit places of the table
+-- Law: the words count the lit places of the table
 pub lit-places : (t : Channels) → length t ≡ placeCount → onesOf (litOf t) ≡ litPlaces t
 unfolding onesOf
 lit-places t e = count-same placeCount (litBit (litOf t)) (litAt t) (words-say (litAt t)) ∙ ap (λ (n : ℕ). countBelow n (litAt t)) (sym e) ∙ lit-all t

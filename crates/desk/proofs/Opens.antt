@@ -88,7 +88,8 @@ line-opens d keys rests line keeps = record { each = λ c e ready. rw e (opens-b
     meets : d .ready ≡ true → meetsRules (deskOf d keys rests .table) ≡ true
     meets h = rw h (keeps .held h .holds .rules)
 
--- and what it left
+-- Demand 3: what a line that asks for an opening leaves and prints is the table, place, moves, looks and records of which demand 3 holds, and
+-- the tables are equal exactly when there is a reason
 pub opens : (d : DeskState) (keys rests line l : List ℕ) (at : ℕ) (keys′ rests′ l′ : List ℕ) (r : Ran) → CanRun d keys rests l at
     → HasRun (runLine (deskOf d keys rests) line) l at keys′ rests′ l′ r → Opens (deskOf d keys rests) line (leftBy at keys′ rests′ l′ r)
 opens d keys rests line l at keys′ rests′ l′ r s h =

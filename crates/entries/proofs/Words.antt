@@ -40,7 +40,7 @@ pub key-number : (c : Circuit) → inFields c ≡ true → keyOf c % 2 ^ 32 ≡ 
 unfolding keyOf
 key-number c h = let w = fields-within c h in omega arith
 
--- keys rise by source node and then by number
+-- 02, E7: "by source node and then by number": so keys rise
 pub key-order : (a b : Circuit) → inFields a ≡ true → inFields b ≡ true
     → (keyOf a < keyOf b) ↔ ((a .source < b .source) ⊎ ((a .source ≡ b .source) × (a .number < b .number)))
 unfolding keyOf
@@ -83,7 +83,7 @@ pub placed-rest : (m : Standing) (p : ℕ) → m .place < 2 ^ 8 → placedAt (re
 unfolding placedAt restOf
 placed-rest m p h = omega arith
 
--- a circuit and its place come back from the two numbers
+-- 02, E7: "each with its place": a circuit and its place come back from a key and a rest
 pub entry-back : (m : Standing) → inFields (m .circuit) ≡ true → m .place < 2 ^ 8 → entryOf (keyOf (m .circuit)) (restOf m) ≡ m
 unfolding entryOf keyOf restOf
 entry-back m f h =

@@ -85,7 +85,7 @@ module _ (except : Refusal → Type 0) where
         agrees-then (end s) _ _ _ (inl refl) λ u s.
         agrees-then _ _ _ _ (agrees-test no-33 _ _ s (a .table (withChannels (freshTable (length ks) ks) chs))) λ u s. inl refl
 
--- tests that agree but for numbers by which a form was not refused give it the answer and the table that it had
+-- Law: tests that agree but for numbers by which a form was not refused give it the answer and the table that it had
 pub agrees-answer : (old now : Tests) (s : List ℕ) → Agreeing (λ r. answeredBy (readBy old s) .verdict ≢ refused r) old now
     → answeredBy (readBy now s) ≡ answeredBy (readBy old s)
 agrees-answer old now s a = go (agrees-form _ old now a s)

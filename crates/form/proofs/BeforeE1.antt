@@ -11,7 +11,7 @@ use Rattle.form.specs.BeforeE1.{testsBeforeE1, readBeforeE1}
 use Rattle.form.proofs.Agreeing.{not-refused, implied, agrees-answer}
 use Rattle.form.proofs.BeforeE2.{held-holds}
 
--- a form that was refused by neither 33 nor 31 before has the answer and the table now that it had before
+-- 02, E1: a form that before E1 was refused by neither 33 nor 31 has the answer and the table that it had
 pub answer-before : (s : List ℕ) → readBeforeE1 s .verdict ≢ refused no-33 → readBeforeE1 s .verdict ≢ refused no-31 → readOf s ≡ readBeforeE1 s
 unfolding readOf readTable
 answer-before s rules field =
@@ -22,6 +22,6 @@ answer-before s rules field =
       table = λ t. implied _ _ rules (before-meets (t .nodes) (t .ports) (t .channels));
     })
 
--- so every form that was read then is read now, to the same table
+-- 02, E1: "Tables saved before remain good.": every form that was read before E1 is read, to the same table
 pub read-before : (s : List ℕ) → readBeforeE1 s .verdict ≡ granted → readOf s ≡ readBeforeE1 s
 read-before s e = answer-before s (not-refused _ no-33 e) (not-refused _ no-31 e)

@@ -35,7 +35,7 @@ use Rattle.form.proofs.Tables.{unlit-written, table-back-by}
 use Rattle.form.proofs.Laws.{granted-holds, write-back}
 use Rattle.form.proofs.Agreeing.{not-refused, implied, agrees-answer}
 
--- the lowest field maps that have an account and hold now did not hold
+-- 02, E2: the lowest field maps that have an account and hold did not hold before E2
 pub no-bits : (mapHeldBeforeE2 8 ≡ false) × (mapHeldBeforeE2 18 ≡ false)
 unfolding bitOf
 no-bits = (refl, refl)
@@ -85,7 +85,7 @@ module _ (m : ℕ) (h : mapHeldBeforeE2 m ≡ true) where
       go false true k = k
       go false false k = refl
 
--- a form that was not refused by 31 before has the answer and the table now that it had before
+-- 02, E2: a form that before E2 was not refused by 31 has the answer and the table that it had
 pub answer-before : (s : List ℕ) → readBeforeE2 s .verdict ≢ refused no-31 → readOf s ≡ readBeforeE2 s
 unfolding readOf readTable
 answer-before s other =
@@ -139,16 +139,18 @@ table-none s =
     unless-holds _ no-33 (meetsRules (withChannels (freshTable (length ks) ks) chs)) s4 _ λ g.
     q
 
+-- 02, E2: a form that was read before E2 gave a table without accounts
 pub no-accounts : (s : List ℕ) → readBeforeE2 s .verdict ≡ granted → NoAccounts (readBeforeE2 s .table .channels)
 no-accounts s e = granted-holds _ (readBy testsBeforeE2 s) (table-none s) e .1
 
--- every form that was read before remains good
+-- 02, E2: "Forms without the bits read as account 0.": every form that was read before E2 is read, to the same circuits with account 0, and
+-- writes back to the very same bytes
 pub read-before : (s : List ℕ) → AreBytes s → readBeforeE2 s .verdict ≡ granted → RemainsGood s
 read-before s h e = record { same = same; none = rw same (no-accounts s e); back = write-back s h (rw same e) }
   where
     same : readOf s ≡ readBeforeE2 s
     same = answer-before s (not-refused _ no-31 e)
 
--- the form of every table without accounts was read before
+-- 02, E2: the form of every table without accounts was read before E2
 pub back-before : (t : RingTable) → meetsRules t ≡ true → NoAccounts (t .channels) → readBeforeE2 (formOf t) ≡ record { table = t; verdict = granted }
 back-before t m h = rw (table-back-by testsBeforeE2 t m (unlit-written t m) (all-held (t .channels) h) m)

@@ -15,12 +15,12 @@ use Rattle.form.specs.Reading.{answeredBy, readTable, readOf, answerIn, 
 use Rattle.form.proofs.Fields.{Holds, AreBytes}
 use Rattle.form.proofs.Tables.{table-back, table-meets, table-wrote}
 
--- a table that meets the ring rules, written and read back, is that table
+-- Demand 2: "A saved form read back gives the table written": so it is of every table that meets the ring rules
 pub read-back : (t : RingTable) → meetsRules t ≡ true → readOf (formOf t) ≡ record { table = t; verdict = granted }
 unfolding readOf
 read-back t m = rw (table-back t m)
 
--- so two such tables with one form are one
+-- Demand 2: two tables that meet the ring rules and have one form are one
 pub one-table : (t u : RingTable) → meetsRules t ≡ true → meetsRules u ≡ true → formOf t ≡ formOf u → t ≡ u
 one-table t u m n e = ap (λ (a : Answered). a .table) (sym (read-back t m) ∙ ap readOf e ∙ read-back u n)
 
@@ -37,7 +37,7 @@ pub granted-holds : (P : RingTable → List ℕ → Type 0) (f : Field RingTable
 granted-holds P (got t r) h e = (r, h)
 granted-holds P (fault n) h e = let z : _≡_ {A = ℕ} 0 1 = cc in absurd (omega arith)
 
--- whatever is read without a refusal meets the ring rules
+-- Law: whatever is read without a refusal meets the ring rules
 pub read-meets : (s : List ℕ) → readOf s .verdict ≡ granted → meetsRules (readOf s .table) ≡ true
 unfolding readOf
 read-meets s e = granted-holds _ (readTable s) (table-meets s) e .1
@@ -46,7 +46,7 @@ read-meets s e = granted-holds _ (readTable s) (table-meets s) e .1
 pub accepted-meets : (s : List ℕ) (a : Answered) → a ≡ readOf s → a .verdict ≡ granted → meetsRules (a .table) ≡ true
 accepted-meets s a e g = rw e (read-meets s (rw e at g))
 
--- what is read without a refusal writes back to the very bytes read
+-- Demand 2: "each table has one form": what is read without a refusal writes back to the very bytes read
 pub write-back : (s : List ℕ) → AreBytes s → readOf s .verdict ≡ granted → formOf (readOf s .table) ≡ s
 unfolding readOf
 write-back s h e = granted-holds _ (readTable s) (table-wrote s h) e .1

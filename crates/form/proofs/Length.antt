@@ -74,7 +74,7 @@ form-length t h =
       map-long (litAt (t .channels)) mapWidth 0,
     )
 
--- at most 2,513 bytes
+-- 02, E2: "The longest form is 2,513 bytes.": no form of a table that meets the ring rules is longer
 pub form-most : (t : RingTable) → meetsRules t ≡ true → length (formOf t) ≤ longestForm
 form-most t m =
     let l = table-limits t m in

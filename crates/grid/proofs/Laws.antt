@@ -57,12 +57,12 @@ module _ (p : GridPlan) (plan : isPlan p ≡ true) (r : Refusal) (h : Bool) wher
   pub last-stops : h ≡ true → judged (planCauses p ++ ((r if h) ∷ [])) ≡ refused r
   last-stops k = last-decides ∙ rw k
 
--- a wavelength of a plan is tuned to its frequency
+-- 02, E3: "wavelength w, from 0 to 63, stands at the starting n plus w": a plan gives each of its 64 wavelengths a frequency
 pub tuned-is : (p : GridPlan) → isPlan p ≡ true → (w : ℕ) → w ≤ highestWavelength → tunedOf p w ≡ To (record { 0 = frequencyAt p w })
 unfolding tunedOf
 tuned-is p e w l = ap (tunedBy p w) (last-passes p e NoWavelength (ltb highestWavelength w) (le-ltb highestWavelength w l))
 
--- and nothing else is tuned
+-- 02, E3: a plan gives nothing else a frequency
 pub tuned-to : (p : GridPlan) (w : ℕ) (f : Frequency) → tunedOf p w ≡ To f → (isPlan p ≡ true) × (w ≤ highestWavelength) × (frequencyAt p w ≡ f .0)
 unfolding tunedOf
 tuned-to p w f e = go (judged (tunedCauses p w)) refl e
@@ -105,22 +105,22 @@ carried-by p f w e = go (judged (carriedCauses p f)) refl e
         (plan-of p (n .0) (n .1 .0), rw same at l, rw same at (there-at p f l))
     go (refused r) h q = absurd (omega (arith, number-byte r .0, ap (λ x. carriedAnswer x .number) q))
 
--- "no two wavelengths of a plan meet"
+-- 02, E3: "no two wavelengths of a plan meet", for all four spacings together
 pub no-two-meet : (p : GridPlan) (w v : ℕ) (f : Frequency) → tunedOf p w ≡ To f → tunedOf p v ≡ To f → w ≡ v
 no-two-meet p w v f a b =
     let x = tuned-to p w f a in
     let y = tuned-to p v f b in
     one-wavelength p (x .0) w v (x .2 ∙ sym (y .2))
 
--- "there and back agrees": back after there gives the wavelength
+-- 02, E3: "there and back agrees", for all four spacings together: back after there gives the wavelength
 pub back-there : (p : GridPlan) (w : ℕ) (f : Frequency) → tunedOf p w ≡ To f → carriedOf p (f .0) ≡ By (record { 0 = w })
 back-there p w f e = let x = tuned-to p w f e in carried-is p (x .0) w (f .0) (x .1) (x .2)
 
--- there after back gives the frequency
+-- 02, E3: "there and back agrees": there after back gives the frequency
 pub there-back : (p : GridPlan) (f : ℕ) (w : Wavelength) → carriedOf p f ≡ By w → tunedOf p (w .0) ≡ To (record { 0 = f })
 there-back p f w e = let x = carried-by p f w e in tuned-is p (x .0) (w .0) (x .1) ∙ ap (λ g. To (record { 0 = g })) (x .2)
 
--- "43 (no wavelength of the plan there)": back is refused by 43 exactly for the frequencies that no wavelength of the plan has
+-- 02, E3: "43 (no wavelength of the plan there)": back is refused by 43 exactly for the frequencies that no wavelength of the plan has
 pub none-there : (p : GridPlan) → isPlan p ≡ true → (f : ℕ)
     → (carriedOf p f ≡ notCarried OffPlan) ↔ ((w : ℕ) → tunedOf p w ≡ To (record { 0 = f }) → ⊥)
 none-there p e f = (there, back)

@@ -73,7 +73,7 @@ at-point p e w =
     let h = held p e in
     further (p .spacing) (p .start) w ∙ ap (λ x. x +ℤ pos (w * p .spacing)) (point-above (p .spacing) (p .start) (h .narrow) (h .low))
 
--- no frequency of a plan is below zero
+-- 02, E3: no frequency of a plan is below zero
 pub above-zero : (p : GridPlan) → isPlan p ≡ true → (w : ℕ) → pos (frequencyAt p w) ≡ gridPoint (p .spacing) (p .start +ℤ pos w)
 unfolding frequencyAt
 above-zero p e w = ap (λ x. pos (natAbs x)) (at-point p e w) ∙ sym (at-point p e w)
@@ -82,7 +82,7 @@ from-start : (p : GridPlan) → isPlan p ≡ true → (w : ℕ) → frequencyAt 
 unfolding frequencyAt
 from-start p e w = ap natAbs (at-point p e w)
 
--- wavelengths stand so many spacings apart as their numbers differ
+-- 02, E3: two wavelengths of a plan stand as many spacings apart as their numbers differ
 pub spaced : (p : GridPlan) → isPlan p ≡ true → (w k : ℕ) → frequencyAt p (w + k) ≡ frequencyAt p w + k * p .spacing
 spaced p e w k =
     from-start p e (w + k)

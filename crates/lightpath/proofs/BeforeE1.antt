@@ -10,19 +10,19 @@ use Rattle.lightpath.specs.Place.{Direction, clockwise, counterclockwise
 use Rattle.lightpath.specs.Circuit.{Circuit, hops, adjacent, canShare}
 use Rattle.lightpath.specs.BeforeE1.{canShareBeforeE1}
 
--- a pair whose hops total N could not share counterclockwise
+-- 02, E1: before it, a pair whose hops total N could not share counterclockwise
 pub before-one : (N : ℕ) (a b : Circuit) → hops N a + hops N b ≡ N → canShareBeforeE1 N counterclockwise a b ≡ false
 before-one N a b e =
     sym (fails (canShareBeforeE1 N counterclockwise a b) (λ h. let more = and-right (adjacent a b) _ h in omega (arith, leb-true)))
 
--- a pair that could share can share
+-- 02, E1: a pair that could share before it can share
 pub before-can : (N : ℕ) (d : Direction) (a b : Circuit) → canShareBeforeE1 N d a b ≡ true → canShare N d a b ≡ true
 before-can N clockwise a b h = h
 before-can N counterclockwise a b h =
     let more : N < hops N a + hops N b = ltb-true _ _ (and-right (adjacent a b) _ h) in
     and-both _ _ (and-left (adjacent a b) _ h) (le-leb N (hops N a + hops N b) (omega arith))
 
--- and but for a total of N counterclockwise nothing else can
+-- 02, E1: but for a total of N counterclockwise, a pair can share exactly where it could before
 pub as-before : (N : ℕ) (d : Direction) (a b : Circuit) → (hops N a + hops N b ≡ N → d ≡ clockwise) → canShare N d a b ≡ canShareBeforeE1 N d a b
 as-before N clockwise a b only = refl
 as-before N counterclockwise a b only = same-test _ _ strict (before-can N counterclockwise a b)

@@ -53,7 +53,7 @@ ahead-cases N s x sl sh xl xh = go (decLe s x)
     go (yes h) = let e : x + N - s ≡ (x - s) + N = omega arith in inl (h, rw e (add-mod-right (x - s) N ∙ mod-eq-of-lt (omega arith)))
     go (no h) = inr (omega arith, mod-eq-of-lt (omega arith))
 
--- a circuit's hops are 1 to N − 1
+-- 01: a circuit's hops are "from 1 to N − 1"
 pub hops-range : (N : ℕ) (c : Circuit) → joins N c ≡ true → (1 ≤ hops N c) × (hops N c < N)
 hops-range N c h = (
   low (ahead-cases N (c .source) (c .destination) (o .sourceLow) (o .sourceHigh) (o .destLow) (o .destHigh)),
@@ -67,7 +67,7 @@ hops-range N c h = (
     low (inl a) = omega (arith, o)
     low (inr a) = omega (arith, o)
 
--- a circuit and its return go once round the ring
+-- 02, E1: the hops of a circuit and its return total N: together they go once round the ring
 pub return-total : (N : ℕ) (a b : Circuit) → joins N a ≡ true → a .destination ≡ b .source → b .destination ≡ a .source → hops N a + hops N b ≡ N
 return-total N a b h e f =
     rw (← e, f)
@@ -96,7 +96,7 @@ ends-back N a b oa ob e h =
     go (inr x) (inl y) = omega (arith, oa, ob)
     go (inr x) (inr y) = absurd (omega (arith, oa, ob))
 
--- so every adjacent pair whose hops total N is one
+-- 02, E1: every adjacent pair whose hops total N is a circuit and its return
 pub total-return : (N : ℕ) (a b : Circuit) → joins N a ≡ true → joins N b ≡ true → adjacent a b ≡ true → hops N a + hops N b ≡ N
     → (a .destination ≡ b .source) × (b .destination ≡ a .source)
 total-return N a b ja jb adj h = go (or-true (eqb (a .destination) (b .source)) (eqb (b .destination) (a .source)) adj)
@@ -151,7 +151,8 @@ clash N a b l oa ob e ll lh d k ua ub =
     go counterclockwise k ua ub (inl c) = omega (arith, ha, past a ua, past b ub, ahead-lt N (a .source) l (omega arith))
     go counterclockwise k ua ub (inr c) = omega (arith, ha, past a ua, past b ub, ahead-lt N (b .source) l (omega arith))
 
--- whichever of the two begins where the other ends
+-- Paper: Lemma 1: two adjacent circuits whose hops total at most N clockwise, or at least N counterclockwise, use no link together in that
+-- direction, whichever of the two begins where the other ends
 pub lemma1 : (N : ℕ) (a b : Circuit) (l : ℕ) → OnRing N a → OnRing N b → adjacent a b ≡ true → 1 ≤ l → l ≤ N → (d : Direction)
     → Suits N d (hops N a + hops N b) → uses N d a l ≡ true → uses N d b l ≡ true → ⊥
 lemma1 N a b l oa ob adj ll lh d k ua ub = go (or-true (eqb (a .destination) (b .source)) (eqb (b .destination) (a .source)) adj)

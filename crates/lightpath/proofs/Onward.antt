@@ -63,7 +63,7 @@ module _ (N : ℕ) (c : Circuit) (o : OnRing N c) where
             lt-ltb (c .destination) (c .source) (b .0),
           )
 
-  -- in either direction, by where it stands to the start and the stop
+  -- Law: a lightpath is over the links clockwise from one of its ends, its start, to the other, its stop
   pub arc : (d : Direction) (l : ℕ) → 1 ≤ l → l ≤ N
       → bit (uses N d c l) + bit (ltb l (startOf d c)) ≡ bit (ltb l (stopOf d c)) + bit (ltb (stopOf d c) (startOf d c))
   arc clockwise l low high = arc-clockwise l low high
@@ -79,14 +79,15 @@ module _ (N : ℕ) (c : Circuit) (o : OnRing N c) where
   ends-apart clockwise e = o .apart e
   ends-apart counterclockwise e = o .apart (sym e)
 
-  -- a lightpath is over link N where its stop comes before its start
+  -- Law: a lightpath is over link N exactly where it stops at a lower node than it starts from
   pub over-last : (d : Direction) → bit (uses N d c N) ≡ bit (ltb (stopOf d c) (startOf d c))
   over-last d =
       let e = ends-on d in
       let a = rw (le-ltb N (startOf d c) (e .1), le-ltb N (stopOf d c) (e .3)) at (arc d N (omega arith) (omega arith)) in
       omega arith
 
-  -- from a link to the next it comes on where it starts at the node between and goes off where it stops there
+  -- 02, E4: from a link to the next a lightpath comes on where it starts at the node between, goes off where it stops there, and is otherwise
+  -- over both links or neither
   pub onward : (d : Direction) (l : ℕ) → 1 ≤ l → l ≤ N
       → bit (uses N d c (next N l)) + bit (eqb (stopOf d c) (next N l)) ≡ bit (uses N d c l) + bit (eqb (startOf d c) (next N l))
   onward d l low high = go (next-cases N l high)

@@ -38,7 +38,7 @@ suits : (N : ℕ) (d : Direction) (a b : Circuit) → canShare N d a b ≡ true 
 suits N clockwise a b h = let fits = and-right (adjacent a b) _ h in omega (arith, leb-true)
 suits N counterclockwise a b h = let fits = and-right (adjacent a b) _ h in omega (arith, leb-true)
 
--- a pair that shares has no link in common
+-- Paper: two circuits that can share in a direction use no link together in it
 pub share-links : (N : ℕ) (d : Direction) (a b : Circuit) (l : ℕ) → canShare N d a b ≡ true → joins N a ≡ true → joins N b ≡ true → 1 ≤ l → l ≤ N
     → bit (uses N d a l) + bit (uses N d b l) ≤ 1
 share-links N d a b l can ja jb low high = go (uses N d a l) refl (uses N d b l) refl
@@ -49,7 +49,7 @@ share-links N d a b l can ja jb low high = go (uses N d a l) refl (uses N d b l)
     go true ex false ey = omega arith
     go false ex y ey = omega (arith, bit-most y)
 
--- a pair whose hops total N can share in both directions
+-- 02, E1: "An adjacent pair whose hops total N can share in both directions."
 pub can-both : (N : ℕ) (d : Direction) (a b : Circuit) → adjacent a b ≡ true → hops N a + hops N b ≡ N → canShare N d a b ≡ true
 can-both N d a b h e = go d (canShare N d a b) refl
   where
@@ -58,12 +58,12 @@ can-both N d a b h e = go d (canShare N d a b) refl
     go clockwise false q = let above = rw h at q in absurd (omega (arith, leb-false))
     go counterclockwise false q = let below = rw h at q in absurd (omega (arith, leb-false))
 
--- so a circuit and its return fit together either way round, on every ring
+-- 02, E1: a circuit and its return "fit together either way round", on every ring
 pub return-shares : (N : ℕ) (d : Direction) (a b : Circuit) → joins N a ≡ true → a .destination ≡ b .source → b .destination ≡ a .source
     → canShare N d a b ≡ true
 return-shares N d a b j e f = can-both N d a b (rw (eq-eqb _ _ e)) (return-total N a b j e f)
 
--- an adjacent pair can share in at least one direction
+-- Paper: an adjacent pair can share in at least one direction
 pub can-one : (N : ℕ) (a b : Circuit) → adjacent a b ≡ true → canShare N (shareDirection N a b) a b ≡ true
 can-one N a b h = go (canShare N clockwise a b) refl
   where
@@ -71,7 +71,7 @@ can-one N a b h = go (canShare N clockwise a b) refl
     go true e = e
     go false e = let above = rw h at e in rw (h, le-leb N (hops N a + hops N b) (omega (arith, leb-false)))
 
--- and in one only unless their hops total N
+-- 02, E1: a pair whose hops do not total N can share in one direction at most
 pub can-only : (N : ℕ) (d : Direction) (a b : Circuit) → hops N a + hops N b ≢ N → canShare N d a b ≡ true → d ≡ shareDirection N a b
 can-only N clockwise a b n h = rw h
 can-only N counterclockwise a b n h = rw (sym (fails (canShare N clockwise a b) (λ k. n (both k))))

@@ -42,7 +42,7 @@ module _ (N : ℕ) (c : Circuit) where
   counterclockwise-fewer : shorterWay N c ≡ counterclockwise → linksUsed N counterclockwise c < linksUsed N clockwise c
   counterclockwise-fewer e = omega (arith, picked-second (shortClockwise N c) e, leb-false, ltb-false)
 
-  -- the shorter way uses no more links than either
+  -- 02, E6: the shorter way uses no more links than either direction
   pub shorter-fewest : (d : Direction) → linksUsed N (shorterWay N c) c ≤ linksUsed N d c
   shorter-fewest = go (shorterWay N c) refl
     where
@@ -52,7 +52,7 @@ module _ (N : ℕ) (c : Circuit) where
       go counterclockwise e clockwise = omega (arith, counterclockwise-fewer e)
       go counterclockwise e counterclockwise = omega arith
 
-  -- where clockwise uses no more links, it is clockwise
+  -- 02, E6: "clockwise when equal": where clockwise uses no more links, it is the shorter way
   pub clockwise-first : linksUsed N clockwise c ≤ linksUsed N (shorterWay N c) c → shorterWay N c ≡ clockwise
   clockwise-first = go (shorterWay N c) refl
     where
@@ -60,7 +60,7 @@ module _ (N : ℕ) (c : Circuit) where
       go clockwise e h = refl
       go counterclockwise e h = absurd (omega (arith, counterclockwise-fewer e))
 
-  -- it uses at most half of the links
+  -- 02, E6: the shorter way uses at most half of the links
   pub shorter-half : linksUsed N (shorterWay N c) c ≤ N / 2
   shorter-half = go (shorterWay N c) refl
     where
@@ -90,7 +90,8 @@ links-below N s low high =
     count-same N (λ i. ltb (suc i) s) (λ i. ltb i (s - 1)) (λ i l. ltb-same (suc i) s i (s - 1) (λ h. omega arith) (λ h. omega arith))
     ∙ count-less N (s - 1) (omega arith)
 
--- the number of links that a lightpath uses is that of the links 1 to N that it is over
+-- 02, E6: the links that a lightpath is over, counted from 1 to N, are as many as its hops clockwise, and as many as the others
+-- counterclockwise
 pub links-counted : (N : ℕ) (c : Circuit) → OnRing N c → (d : Direction) → linksOver N d c ≡ linksUsed N d c
 links-counted N c o d = go d (ahead-cases N (c .source) (c .destination) (o .sourceLow) (o .sourceHigh) (o .destLow) (o .destHigh))
   where

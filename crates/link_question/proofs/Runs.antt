@@ -58,7 +58,7 @@ module _ (t : RingTable) (meets : meetsRules t ≡ true) (l w : ℕ) (d : Direct
   abbrev there : List Circuit
   there = held (at (t .channels) (placeOf w d))
 
-  -- at most one of them uses link l
+  -- 01: on a ring that meets the rules at most one circuit of a place uses a link
   pub one-runs : weigh (λ c. bit (uses (t .nodes) d c l)) there ≤ 1
   unfolding users
   one-runs =
@@ -75,10 +75,10 @@ module _ (t : RingTable) (meets : meetsRules t ≡ true) (l w : ℕ) (d : Direct
         side clockwise = simp (le-leb 1 l low, le-leb l (t .nodes) high, lt-ltb w (wavelengths (t .ports)) below)
         side counterclockwise = simp (le-leb 1 l low, le-leb l (t .nodes) high, lt-ltb w (wavelengths (t .ports)) below)
 
-    -- the one that uses link l is the answer
+    -- 01: the circuit of the place that uses the link is the answer
     pub answer-runs : All (λ c. uses (t .nodes) d c l ≡ true → linkOf t l w (sideOf d) ≡ c .number) there
     answer-runs = rw answered (running-each (t .nodes) d l there one-runs)
 
-    -- and none where none does
+    -- 01: the answer is none where no circuit of the place uses the link
     pub answer-none : All (λ c. uses (t .nodes) d c l ≡ false) there → linkOf t l w (sideOf d) ≡ noCircuit
     answer-none h = answered ∙ running-none (t .nodes) d l there h

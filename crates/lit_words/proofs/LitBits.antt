@@ -30,7 +30,7 @@ high-bits l p =
     simp (le-ltb (64 + p) 64 (omega arith), e)
 
 module _ (l : Lit) (low : l .low < 2 ^ 64) (high : l .high < 2 ^ 64) where
-  -- the ones of both words are the lit places
+  -- 01: "The map says which places are lit": the ones of both words are as many as the lit places
   pub lit-count : ones (l .low) + ones (l .high) ≡ countBelow placeCount (litBit l)
   lit-count =
       ap₂ _+_ (ones-count 64 (l .low) low) (ones-count 64 (l .high) high)
@@ -48,12 +48,12 @@ module _ (l : Lit) (low : l .low < 2 ^ 64) (high : l .high < 2 ^ 64) where
       trailing-first 64 (l .high) high
       ∙ first-same 64 (λ p. not (bitOf (l .high) p)) (λ p. not (litBit l (64 + p))) (λ p h. ap not (sym (high-bits l p)))
 
-  -- the first unlit place is the low word's where that has one
+  -- Law: the first unlit place is the low word's where that has one
   pub unlit-low : trailingZeros 64 (2 ^ 64 - 1 - l .low) < 64 → trailingZeros 64 (2 ^ 64 - 1 - l .low) ≡ unlitBy l
   unfolding unlitBy
   unlit-low h = first-low ∙ sym (first-bound 64 placeCount (λ p. not (litBit l p)) (omega (arith, first-low)) (omega (arith, first-low)))
 
-  -- and else the high word's
+  -- Law: the first unlit place is the high word's where the low word has none
   pub unlit-high : 64 ≤ trailingZeros 64 (2 ^ 64 - 1 - l .low) → 64 + trailingZeros 64 (2 ^ 64 - 1 - l .high) ≡ unlitBy l
   unfolding unlitBy
   unlit-high h = ap (λ (n : ℕ). 64 + n) first-high ∙ sym (first-sum 64 64 (λ p. not (litBit l p)) (omega (arith, first-low)))

@@ -83,11 +83,13 @@ module _ (l w : Lit) (d e : Direction) (m u : ℕ) (other : e ≡ otherWay d) (a
       is ∙ first-same placeCount (λ p. not (litBit w p)) (λ p. not (litBit l p) && sameDirection (directionOf p) d)
       (λ p h. rw (all, other, way-lit l (otherWay d) p h) (way-unlit (litBit l p) (directionOf p) d))
 
-  -- of all places, where it is below the limit, and there is none where it is not
+  -- Law: the lowest place that is unlit with those of the other direction lit is the lowest unlit one of a direction, where it is below the
+  -- limit
   pub lowest-within : m ≤ placeCount → u < m → u ≡ unlitIn l d m
   unfolding unlitIn
   lowest-within h k = first-within m placeCount (λ p. not (litBit l p) && sameDirection (directionOf p) d) u lowest h k
 
+  -- Law: no place of a direction below the limit is unlit where that place is not below it
   pub lowest-none : m ≤ u → m ≡ unlitIn l d m
   unfolding unlitIn
   lowest-none k = none-within m placeCount (λ p. not (litBit l p) && sameDirection (directionOf p) d) u lowest k

@@ -65,7 +65,7 @@ module _ (N : ℕ) (t : Channels) (joined : Joined N t) (d : Direction) where
       weigh-balance _ _ _ _ (lightpaths t d)
       (all-map _ _ (λ c o. onward N c o d l low high) (lightpaths t d) (lightpaths-on mostWavelengths (omega arith)))
 
-  -- on the way the load and those that start are at most all lightpaths
+  -- 02, E4: on the way from link to link the load and the lightpaths that start are at most all of the direction
   pub load-added : (l : ℕ) → 1 ≤ l → l ≤ N → linkLoad N t d l + tally (startOf d) (next N l) (lightpaths t d) ≤ length (lightpaths t d)
   unfolding users
   load-added l low high =
@@ -76,7 +76,8 @@ module _ (N : ℕ) (t : Channels) (joined : Joined N t) (d : Direction) where
 pub table-joined : (t : RingTable) → meetsRules t ≡ true → Joined (t .nodes) (t .channels)
 table-joined t meets p i = and-left _ _ (table-rules t meets .places p i)
 
--- E4's law, for every table that meets the rules and every link
+-- 02, E4: "from each link to the next clockwise, link 1 after link N, the clockwise load grows by the clockwise lightpaths from the node
+-- between and falls by those to it, the counterclockwise load the other way about"
 pub load-next : (t : RingTable) → meetsRules t ≡ true → (d : Direction) (l : ℕ) → 1 ≤ l → l ≤ t .nodes
     → linkLoad (t .nodes) (t .channels) d (next (t .nodes) l) + falls (t .channels) d (next (t .nodes) l)
     ≡ linkLoad (t .nodes) (t .channels) d l + grows (t .channels) d (next (t .nodes) l)

@@ -90,13 +90,15 @@ module _ (N : ℕ) (t : Channels) (joined : Joined N t) (few : N ≤ mostNodes) 
   running-load zero i = last ∙ load-last N t joined d
   running-load (suc k) i = omega (arith, step k i (running-load k (omega arith)))
 
-  -- so it is a byte, and never below zero
+  -- 02, E4: "adding the lightpaths that begin and taking off those that end": a running load is a byte at every node, and what is taken off is
+  -- there
   pub load-walks : Walks N starts stops first
   load-walks = record {
     added = λ k i. fits k i (running-load k (omega arith));
     taken = λ k i. omega (arith, step k i (running-load k (omega arith)));
   }
 
+  -- 02, E4: "a running load from link to link", from the lightpaths over link N on, is the load of each link
   pub load-running : (k : ℕ) → k < N → running starts stops first (suc k) ≡ linkLoad N t d (suc k)
   load-running k i = running-load (suc k) i
 

@@ -51,14 +51,14 @@ module _ (form : List ℕ) (accepted : readOf form .verdict ≡ granted) (l w : 
   unfolding ringLink
   same = rw accepted
 
-  -- at most one circuit there uses link l
+  -- 01: on the ring of a form that is accepted at most one circuit of a place uses a link
   pub form-one : weigh (λ c. bit (uses (t .nodes) d c l)) there ≤ 1
   form-one = one-runs t (read-meets form accepted) l w d low high
 
-  -- the answer is the number of the one that does
+  -- 01: of a form that is accepted, the answer is the number of the circuit that uses the link
   pub form-runs : All (λ c. uses (t .nodes) d c l ≡ true → ringLink form l w (sideOf d) ≡ c .number) there
   form-runs = rw same (answer-runs t (read-meets form accepted) l w d low high below)
 
-  -- and none where none does
+  -- 01: of a form that is accepted, the answer is none where no circuit of the place uses the link
   pub form-none : All (λ c. uses (t .nodes) d c l ≡ false) there → ringLink form l w (sideOf d) ≡ noCircuit
   form-none h = same ∙ answer-none t (read-meets form accepted) l w d low high below h

@@ -89,7 +89,7 @@ module _ (node : ℕ) where
         in-weighs w t,
       )
 
-  -- each circuit to the node stands there once, with its ends exchanged, and no other does: whatever is counted
+  -- Law: of the lines of `to` each circuit to the node stands there once, with its ends exchanged, and no other does: whatever is counted
   pub arrived-weighs : (w : Circuit → ℕ) (t : Channels)
       → weigh (λ m. w (m .circuit)) (arrived node t) ≡ weigh (λ c. pick (eqb (c .destination) node) (w (exchanged c)) 0) (circuits t)
   arrived-weighs w t = rw (arrived-entries t) (entries-circuits (arrivalsIn node t) w ∙ in-weighs w t)

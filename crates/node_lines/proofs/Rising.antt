@@ -81,7 +81,7 @@ module _ (node : ℕ) where
   arrived-once N ks t rules k =
       omega (arith, arrived-weighs node (λ c. bit (eqb (c .number) k)) t, fewer k (circuits t), distinct-most (λ c. c .number) (circuits t) (rules .numbers) k)
 
-  -- and go by rising number
+  -- Law: the circuits to a node go by rising number
   pub arrived-rises : (N : ℕ) (ks : List ℕ) (t : Channels) → Rules N ks t → Numbered (arrived node t)
   arrived-rises N ks t rules =
       rises (arrived node t) (rw (arrived-entries node t) (entries-ordered (arrivalsIn node t))) (from-node t)

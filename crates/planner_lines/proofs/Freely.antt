@@ -34,6 +34,8 @@ module _ (free other : Free) where
   same-command d l (From node) h = refl
   same-command d l atDesk h = refl
 
+  -- 01: "An answer that the papers leave free is named in the contract": of every line but `show`, `read @PATH` and `write @PATH` the outcome
+  -- is the same, whatever is free
   pub nothing-free : (d : Desk) (l : List ℕ) → leavesFree (commandOf l) ≡ false → planLine free d l ≡ planLine other d l
   unfolding planLine
   nothing-free d l h = same-command d l (commandOf l) h

@@ -51,7 +51,7 @@ by-words l (w ∷ ws) n = ring (sameText w (bytes "ring")) refl
     ring true e = rw (same-is w (bytes "ring") e)
     ring false e = open-line (sameText w (bytes "open")) refl e
 
--- a line that the script program does not refuse is run by the same call: with `run_line`'s promise, it prints the same to the byte
+-- Law: a line that the script program does not refuse is run by the same call: with `run_line`'s promise, it prints the same to the byte
 pub script-line : (l : List ℕ) → (parseLine l .request ≡ Bad → ⊥) → commandOf l ≡ Desk
 unfolding parseLine commandOf
 script-line l n = go (leb (length l) longestLine) refl
@@ -62,7 +62,7 @@ script-line l n = go (leb (length l) longestLine) refl
         rw (le-leb (length l) longestCommand h) (by-words l (words l) (λ b. n (rw e b)))
     go false e = absurd (n (rw e))
 
--- so its outcome is the desk's
+-- Law: a line that the script program does not refuse has the script's outcome
 pub script-outcome : (free : Free) (d : DeskOf) (l : List ℕ) → (parseLine l .request ≡ Bad → ⊥) → planLine free d l ≡ runLine d l
 unfolding planLine
 script-outcome free d l n = rw (script-line l n)
@@ -71,7 +71,7 @@ script-outcome free d l n = rw (script-line l n)
 asks-some : (l : List ℕ) (c : Circuit) → parseLine l .request ≡ Open c → parseLine l .request ≡ Bad → ⊥
 asks-some l c e k = let i : Open c ≡ Bad = sym e ∙ k in let z : _≡_ {A = ℕ} 0 1 = cc in omega arith
 
--- demand 3 of what an opening leaves and prints
+-- Demand 3: what an opening in `ringplan` leaves and prints is the table, place, moves, looks and records of which demand 3 holds
 pub plan-opens : (d : DeskState) (keys rests line l : List ℕ) (at : ℕ) (keys′ rests′ l′ : List ℕ) (r : Ran) → CanAnswer d keys rests l at
     → LineRun (deskOf d keys rests) line l at keys′ rests′ l′ r → Opens (deskOf d keys rests) line (leftBy at keys′ rests′ l′ r)
 plan-opens d keys rests line l at keys′ rests′ l′ r s h =

@@ -18,7 +18,7 @@ use Rattle.basis.proofs.Fold.{total-parts}
 use Rattle.limits.specs.Limits.{leastNodes, mostNodes, mostPorts, mostTotal}
 use Rattle.ports.specs.Ports.{wavelengths, limitOf, eachAtMost, portsAt, limits}
 
--- W is K / 3 rounded up: three times it is at least K, and less than K and 3 more
+-- 01: "W is K / 3 rounded up": three times W is K, K + 1 or K + 2
 pub rounded-up : (ks : List ℕ) → (total ks ≤ 3 * wavelengths ks) × (3 * wavelengths ks < total ks + 3)
 rounded-up ks = (omega arith, omega arith)
 

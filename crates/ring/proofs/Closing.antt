@@ -68,7 +68,7 @@ module _ (t : RingTable) (n : ℕ) (rules : meetsRules t ≡ true) where
   keeps : live (t .channels) n ≡ true → Kept (t .nodes) (t .ports) (t .channels) (circuitOf (t .channels) n ∷ []) [] (closed (t .channels) n) []
   keeps l = closes (t .nodes) (t .ports) (t .channels) (table-rules t rules) n l
 
-  -- the circuit of a live number is taken off
+  -- 01: "Closing takes the circuit off and moves none.": the circuit of a live number goes, and every other place is as it was
   pub close-takes : live (t .channels) n ≡ true → TakenOff t n (closeOf t n)
   close-takes l =
       subst (TakenOff t n) (sym (close-live l))
@@ -80,11 +80,11 @@ module _ (t : RingTable) (n : ℕ) (rules : meetsRules t ≡ true) where
         elsewhere = close-there (t .channels) n;
       })
 
-  -- another number is refused by 15
+  -- 01: a closing of a number that is not live is refused by 15, and the table is as it was
   pub close-refuses : live (t .channels) n ≡ false → NotTaken t 15 (closeOf t n)
   close-refuses d = subst (NotTaken t 15) (sym (close-dead d)) (record { answer = refl; same = refl })
 
-  -- whatever the answer, the table after it meets the ring rules
+  -- 01: whatever a closing answers, the table after it meets the ring rules
   pub close-rules : meetsRules (closeOf t n .table) ≡ true
   close-rules = go (live (t .channels) n) refl
     where

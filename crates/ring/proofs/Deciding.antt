@@ -73,7 +73,8 @@ module _ (t : RingTable) (c : Circuit) (n : ℕ) (rules : meetsRules t ≡ true)
   open-ready : judged (openCauses t c n) ≡ granted → Ready (t .nodes) (limitOf (t .ports)) (t .channels) c
   open-ready e = placing-ready t rules c (permits e) (limitOf (t .ports)) refl
 
-  -- where step 3 finds a pair whose hops total N, its two circuits are put together, and the lower place stays
+  -- 02, E1: "the lower place stays": where step 3 of an opening finds a pair whose hops total N, its two circuits are put together at the
+  -- lower place
   pub open-return : judged (openCauses t c n) ≡ granted
       → limitOf (t .ports) ≤ joinPlace (t .nodes) (limitOf (t .ports)) (t .channels) c
       → limitOf (t .ports) ≤ unlitPlace (t .nodes) (limitOf (t .ports)) (t .channels) c
@@ -89,7 +90,7 @@ module _ (t : RingTable) (c : Circuit) (n : ℕ) (rules : meetsRules t ≡ true)
       → PlanKeeps (t .nodes) (t .ports) (t .channels) c (placing t c .opened .table .channels) (planned t c .taken) (planned t c .moves)
   serves e = placing-keeps t rules c (permits e)
 
-  -- whatever the answer, the table after it meets the ring rules
+  -- Demand 3: "meets the ring rules again": whatever an opening answers, the table after it meets the ring rules
   pub open-rules : meetsRules (decideOf t c n .opened .table) ≡ true
   open-rules = go (judged (openCauses t c n)) refl
     where
@@ -97,7 +98,7 @@ module _ (t : RingTable) (c : Circuit) (n : ℕ) (rules : meetsRules t ≡ true)
       go granted e = ap (λ d. meetsRules (d .opened .table)) (decided granted e) ∙ serves e .kept .rules
       go (refused r) e = ap (λ d. meetsRules (d .opened .table)) (decided (refused r) e) ∙ rules
 
-  -- the looks answered are never above 8,256
+  -- 01: the looks that an opening answers are "never above 8,256"
   pub open-looks : (p k looks : ℕ) → openingAnswer (decideOf t c n .opened .answer) ≡ record { number = 0; values = p ∷ k ∷ looks ∷ [] } → looks ≤ 8256
   open-looks p k looks h = go (judged (openCauses t c n)) refl
     where

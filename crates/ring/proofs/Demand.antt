@@ -112,7 +112,7 @@ module _ (t : RingTable) (c : Circuit) (n : ℕ) (rules : meetsRules t ≡ true)
   more : ServedBy t c (decideOf t c n .opened) (listed (decideOf t c n .moves)) → decideOf t c n .opened .table ≡ t → ⊥
   more s e = omega (arith, s .4 .exact (λ x. 1), ap (λ u. weigh (λ x. 1) (circuits (u .channels))) e)
 
-  -- the whole of demand 3
+  -- Demand 3: the whole of it, of an opening by value, for every table that meets the ring rules
   pub demand3 : Demand3 t c n (decideOf t c n .opened) (listed (decideOf t c n .moves))
   demand3 = record {
     equal = (λ e. cause (someGiven (reasons t c n)) refl e, λ h. refuse h .table);
@@ -124,7 +124,8 @@ module _ (t : RingTable) (c : Circuit) (n : ℕ) (rules : meetsRules t ≡ true)
       cause true h e = refl
       cause false h e = absurd (more (serve (granted-none h)) e)
 
-  -- the place, the number of moves and the looks that are answered are the steps', and it holds of that place and that number
+  -- Demand 3: the place, the moves and the looks answered are those of the plan, and demand 3 holds of that place, those moves and their
+  -- records
   pub answered : (p : Place) (k looks : ℕ) → decideOf t c n .opened .answer ≡ taken p k looks
       → Served3 t c (decideOf t c n .opened .table) (p .0) k (listed (decideOf t c n .moves)) × (p .0 ∷ k ∷ looks ∷ [] ≡ openValues t c)
   answered p k looks h = go (judged (openCauses t c n)) refl
@@ -183,7 +184,7 @@ module _ (t : RingTable) (c : Circuit) (lent : List Move) (rules : meetsRules t 
     untouched = λ h. ap (λ d. written lent (d .moves)) (turned t c (length lent) rules h .1) ∙ fronted-none _ lent;
   }
 
--- an opening that answers as defined, and leaves the list as defined, meets it
+-- Demand 3: the whole of it, of an opening with any lent list, and of the list after it
 pub demand3-open : (t : RingTable) (c : Circuit) (lent : List Move) (o : Opened) (lent′ : List Move) → o ≡ openOf t c lent
     → lent′ ≡ lentAfter t c lent → meetsRules t ≡ true → Demand3Lent t c lent o lent′
 demand3-open t c lent o lent′ e f rules = rw (e, f) (demand3-lent t c lent rules)

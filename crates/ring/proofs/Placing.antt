@@ -43,7 +43,8 @@ module _ (t : RingTable) (rules : meetsRules t ≡ true) where
     pub placing-ready : (m : ℕ) → m ≡ limitOf (t .ports) → Ready (t .nodes) m (t .channels) c
     placing-ready m limit = rw limit (ready (t .nodes) (t .ports) (t .channels) c (table-rules t rules) may)
 
-    -- what placing keeps
+    -- Law: placing a circuit that the ports permit, in a table that meets the ring rules, keeps the rules, the circuits and the links, and
+    -- names its moves
     pub placing-keeps : PlanKeeps (t .nodes) (t .ports) (t .channels) c (placing t c .opened .table .channels) (planned t c .taken) (planned t c .moves)
     placing-keeps = plan-serves (t .nodes) (t .ports) (t .channels) c (table-rules t rules) may
 

@@ -152,7 +152,7 @@ module _ (t : RingTable) (rules : meetsRules t ≡ true) where
         links = k .links;
       }
 
-  -- with a list of any length
+  -- 02, E5: what a tidying with a list of any length promises, for every table that meets the ring rules
   pub tidies-by : (n : ℕ) → TidiesBy t n (decideTidyOf t n .tidied) (recorded (decideTidyOf t n .moves))
   tidies-by n = record {
     refused = λ l. rw (← tidy-short t n rules (tidyingBy t (refused ShortList)) l refl) (refl, refl, refl);
@@ -161,7 +161,7 @@ module _ (t : RingTable) (rules : meetsRules t ≡ true) where
         (roundsOf t .rounds, length (roundsOf t .moves), refl, tidied-table);
   }
 
-  -- whatever the answer, the table after it meets the ring rules
+  -- 02, E5: "the ring rules are met again": whatever a tidying answers, the table after it meets them
   pub tidy-rules : (n : ℕ) → meetsRules (decideTidyOf t n .tidied .table) ≡ true
   tidy-rules n = go (decLt n tidyRecords)
     where
@@ -169,7 +169,7 @@ module _ (t : RingTable) (rules : meetsRules t ≡ true) where
       go (yes l) = rw (← tidy-short t n rules (tidyingBy t (refused ShortList)) l refl) rules
       go (no h) = rw (← tidy-long t n rules (tidyingBy t granted) (omega arith) refl) (does .kept .rules)
 
-  -- a table that has been tidied is tidied already: no round is made, and it stays as it is
+  -- 02, E5: a table that has been tidied is tidied already: no round is made, and it stays as it is
   pub tidy-again : (n : ℕ) → tidyRecords ≤ n
       → decideTidyOf (decideTidyOf t n .tidied .table) n
       ≡ record { tidied = record { table = decideTidyOf t n .tidied .table; answer = tidied 0 0 }; moves = listOf [] }

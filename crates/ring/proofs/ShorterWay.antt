@@ -55,6 +55,10 @@ module _ (t : RingTable) (c : Circuit) (n : ℕ) (rules : meetsRules t ≡ true)
       pub lowest : directionOf p ≡ directionOf q → q ≤ p
       pub half : directionOf p ≡ shorterWay (t .nodes) c → linksOver (t .nodes) (directionOf q) c ≤ t .nodes / 2
 
+    -- 02, E6: "Step 2 now takes the lowest unlit place below 2 × W in the direction where the circuit uses fewer links, clockwise when equal".
+    -- So every opening does that joins none where such a place is unlit, and nothing moves. Beside each such place, the one taken uses no more
+    -- links, is clockwise where it uses as many and that one is, and is the lower of one direction. Where a place of the shorter way was
+    -- unlit, it uses at most half of the links
     pub takes-shorter : TakesShorter
     takes-shorter =
         let m = limitOf (t .ports) in

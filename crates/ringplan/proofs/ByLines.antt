@@ -19,7 +19,7 @@ use Rattle.ringplan.specs.Plan.{heldRoom}
 use Rattle.ringplan.specs.Input.{startScript, Takes, nothing, ended, more, Runs, none, ran}
 use Rattle.ringplan.specs.Turn.{Finished}
 
--- a line of so many bytes is as bad as a longer one
+-- Law: a line has the outcome of its first 8,193 bytes, so that holding no more loses nothing
 plan-cut : (free : Free) (d : Desk) (w : List ℕ) → planLine free d (take heldRoom w) ≡ planLine free d w
 unfolding planLine commandOf parseLine
 plan-cut free d w = go (leb (length w) heldRoom) refl
@@ -66,6 +66,7 @@ led-more {input} x n q =
       rest = λ later. let k : eqb x 10 ≡ false = ne-eqb x 10 n in rw (append-assoc input (x ∷ []) later) (rw k at (q .rest (x ∷ later)));
     }
 
+-- Law: the bytes taken in from the start are some lines that were run one after the other, and those of a line that has begun
 led : {input output : List ℕ} {t : Script} → Takes startScript input output t → Led input output t
 unfolding linesAfter
 led nothing = record { lines = []; w = []; runs = none; held = refl; rest = λ later. refl }
@@ -77,7 +78,7 @@ led-last : {input output : List ℕ} {t : Script} (q : Led input output t) → l
 unfolding linesAfter
 led-last {input} q = rw (append-nil input) at (q .rest [])
 
--- the end of the input, where no line is held
+-- Law: where no line is held at the end of the input, all of its lines were run and their texts printed
 pub ends-none : (s : Script) (out : List ℕ) → s .held ≡ [] → Finished s out 0
 ends-none s out e =
     record { within = omega arith; desk = s .desk; prints = λ h. let q = led h in go _ _ (q .lines) (q .w) (led-last q) (q .runs) (q .held) }
@@ -87,7 +88,7 @@ ends-none s out e =
     go input output lines [] i r k = rw (append-nil output, i, append-nil lines) r
     go input output lines (x ∷ w) i r k = absurd (omega (arith, ap length e, ap length k))
 
--- and where one is, it is run like any other
+-- Law: a line that is held at the end of the input is run like any other, and completes what the lines print
 pub ends-line : (s : Script) (out : List ℕ) (wrote : ℕ) (free : Free) → length (free .content) ≤ mostRead → (s .held ≡ [] → ⊥) → wrote ≤ length out
     → take wrote out ≡ planLine free (s .desk) (s .held) .text → Finished s out wrote
 ends-line s out wrote free few n b e =

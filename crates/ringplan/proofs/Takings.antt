@@ -10,7 +10,7 @@ use Rattle.buffer.specs.Put.{Put}
 use Rattle.script.specs.Bytes.{Script}
 use Rattle.ringplan.specs.Input.{Takes, nothing, ended, more}
 
--- bytes taken in, and others after them
+-- Law: bytes taken in, and others after them, are taken in as all of them at once, however reads cut them
 pub takes-then : {s t u : Script} {a b o p : List ℕ} → Takes s a o t → Takes t b p u → Takes s (a ++ b) (o ++ p) u
 takes-then {a = a} {o = o} h nothing = rw (append-nil a, append-nil o) h
 takes-then {a = a} {o = o} h (ended {input} {output} free few k) =

@@ -136,7 +136,7 @@ pub arranged-most : (t : RingTable) → meetsRules t ≡ true → arranged t .he
 unfolding arranged
 arranged-most t meets = omega (arith, entries-count (t .channels), circuits-most (t .nodes) (t .ports) (t .channels) (rules-hold (t .nodes) (t .ports) (t .channels) meets))
 
--- "there and back gives it again": from the table,
+-- 02, E7: "there and back gives it again": a table that meets the ring rules, arranged and built again, is that table
 pub there-and-back : (t : RingTable) → meetsRules t ≡ true → Typed (t .channels) → tableOf (arranged t) ≡ t
 unfolding tableOf arranged
 there-and-back t meets typed =
@@ -162,7 +162,7 @@ same-entries r e =
     let s = same-list (arranged (tableOf r) .rests) (r .rests) (and-right (eqb (arranged (tableOf r) .heading .count) (r .heading .count) && sameList (arranged (tableOf r) .keys) (r .keys)) _ e) in
     λ i. record { keys = k i; rests = s i; heading = record { ports = r .heading .ports; nodes = r .heading .nodes; count = n i } }
 
--- and from the roster, where it stands
+-- 02, E7: "there and back gives it again": a roster that stands, made a table and arranged again, is that roster
 pub back-and-there : (r : Roster) → stands r ≡ true → arranged (tableOf r) ≡ r
 unfolding stands
 back-and-there r h = same-entries r (and-right (meetsRules (tableOf r)) _ h)
@@ -183,7 +183,7 @@ arranged-stands t meets typed =
     subst (λ (u : RingTable). (meetsRules u && sameEntries (arranged u) (arranged t)) ≡ true) (sym (there-and-back t meets typed))
     (and-both _ _ meets (and-both _ _ (and-both _ _ (eq-eqb (arranged t .heading .count) (arranged t .heading .count) refl) (list-same (arranged t .keys))) (list-same (arranged t .rests))))
 
--- "an arrangement that no old table gives is met by 22": a roster stands exactly where some table that meets the ring rules gives it
+-- 02, E7: "An arrangement that no old table gives is met by 22.": a roster stands exactly where some table that meets the ring rules gives it
 pub stands-exactly : (r : Roster) → (stands r ≡ true) ↔ Gives r
 stands-exactly r = (
   λ h. record { table = tableOf r; rules = stands-rules r h; typed = table-typed r; is = back-and-there r h },

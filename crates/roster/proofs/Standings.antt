@@ -65,11 +65,12 @@ module _ (t : Channels) where
   unfolding entries
   entries-standings v = omega (arith, filed-all-weighs v (standingsFrom 0 (slots t)) [])
 
+  -- 02, E7: the entries of a table stand in the order of their keys
   pub entries-ordered : Ordered (entries t)
   unfolding entries
   entries-ordered = filed-all-ordered (standingsFrom 0 (slots t)) [] tt
 
-  -- a weight of circuits
+  -- 02, E7: the entries of a table are its circuits, each once: whatever is weighed
   pub entries-circuits : (w : Circuit → ℕ) → weigh (λ m. w (m .circuit)) (entries t) ≡ weigh w (circuits t)
   entries-circuits w = entries-standings (λ m. w (m .circuit)) ∙ from-weighs (λ m. w (m .circuit)) w 0 (slots t) (λ i l. each (held (getD (slots t) i unlit)))
     where
@@ -129,7 +130,7 @@ from-at w q (suc i) (s ∷ u) =
       from-at w (suc q) i u,
     ))
 
--- what the entries at a place weigh is what the place holds
+-- 02, E7: the entries at a place are what the place holds
 pub entries-at : (t : Channels) (w : Circuit → ℕ) (p : ℕ) → weigh (ofPlace w p) (entries t) ≡ weigh w (held (at t p))
 entries-at t w p =
     let z : 0 + p ≡ p = omega arith in

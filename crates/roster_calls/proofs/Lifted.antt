@@ -28,7 +28,8 @@ module _ {D : Type 0} (r : Roster) (given met : D) where
       go true = e
       go false = k
 
-  -- its answer in numbers: 22 for a roster that does not stand, and then the old call's
+  -- 02, E7: "every call on the new one gives what the old one gives": the answer in numbers is 22 for a roster that does not stand, and then
+  -- the old call's
   pub lifted-numbers : (answer : D → Answer) (others : List Reason) (values : List ℕ) → answer given ≡ answerBy ((22 when not (meetsRules (tableOf r))) ∷ others) values
       → answer met ≡ refusal 22 → answer lifted ≡ answerBy ((22 when not (stands r)) ∷ others) values
   lifted-numbers answer others values old met22 = go (stands r) refl
@@ -39,9 +40,10 @@ module _ {D : Type 0} (r : Roster) (given met : D) where
 
   -- what is so of the call is so of what is it: of what the old call gives, with what more is so of that,
   module _ (P : D → Type 0) (all : P lifted) (d : D) {Q : Type 0} where
+    -- 02, E7: what is so of the call is so of what the old call gives, with what more is so of that
     pub lifted-valid : stands r ≡ true → d ≡ given → Q → (d ≡ lifted) × (P d × Q)
     lifted-valid s e q = let k = e ∙ sym (lifted-given s) in (k, (subst P (sym k) all, q))
 
-    -- and of what 22 gives, with whatever is asked of a roster that stands
+    -- 02, E7: what is so of the call is so of what 22 gives, with whatever is asked of a roster that stands
     pub lifted-refused : stands r ≡ false → d ≡ met → (d ≡ lifted) × (P d × (stands r ≡ true → Q))
     lifted-refused f e = (rw f e, (subst P (sym (rw f e)) all, λ s. absurd (omega (arith, ap bit (sym f ∙ s)))))

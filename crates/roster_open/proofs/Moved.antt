@@ -136,7 +136,8 @@ module _ (N : ℕ) (ks : List ℕ) (t : Channels) (rules : Rules N ks t) (c : Ci
               rw (le-ltb 0 (tally (λ m. m .number) (x .number) ms) (omega (arith, rw e at (h .0))))
               (stays N ks t rules [] (c ∷ []) t′ ms (k .kept) (x .number) e (omega (arith, h .1, k .kept .exact (λ y. bit (eqb (y .number) (x .number))))))
 
-  -- so the entries of the second table are the old ones after the moves, and the new one filed
+  -- 02, E7: the entries of the table after an opening are the old ones, the moved circuits' with their new places, and the new circuit's filed
+  -- among them
   pub opened-entries : Typed t′ → entries t′ ≡ filed (record { place = p; circuit = c }) (replacedAll ms (entries t))
   opened-entries typed =
       are-entries N ks t′ (rules-hold N ks t′ (k .kept .rules)) typed (filed (record { place = p; circuit = c }) (replacedAll ms (entries t)))
@@ -238,7 +239,7 @@ module _ (N : ℕ) (ks : List ℕ) (t : Channels) (rules : Rules N ks t) (n : �
           let e = stays N ks t rules (x ∷ []) [] t′ [] kept (y .number) s l in
           λ i. record { place = sym e i; circuit = y }
 
-  -- the entries of the second table are the old ones without that of the number
+  -- 02, E7: the entries of the table after a closing are the old ones without that of the number
   pub closed-entries : Typed t′ → firstPlace (λ e. eqb (numberIn e) n) (entries t) < length (entries t)
       → entries t′ ≡ withoutAt (firstPlace (λ e. eqb (numberIn e) n) (entries t)) (entries t)
   closed-entries typed l =

@@ -58,7 +58,8 @@ module _ (r : Roster) (s : stands r ≡ true) (node : ℕ) where
     rising = row-rises _ _ _ rules (table-typed r) node;
   }
 
-  -- the first `count` of the row that a lookup gives are those
+  -- 02, E7: "Lookups by node should be short.": a row has each circuit of the table that the node sends, once, with its place, and no other;
+  -- by rising number, as many as the node sends
   pub row-exact : onRing (tableOf r .nodes) node ≡ true → Exact (tableOf r .channels) node (take (rowOfRoster r node .count) (rowOfRoster r node .list))
   unfolding rowOfRoster
   row-exact on = rw (s, on, take-append-seam (sentBy r node)) sent-exact
@@ -82,8 +83,8 @@ numbered-weighs v n (m ∷ ms) h = go (eqb (m .circuit .number) n) refl (numbere
         other x l = rw (ne-eqb (x .circuit .number) n (λ k. absurd (omega (arith, eqb-true (m .circuit .number) n e))))
     go false e rest = omega arith
 
--- so a lookup by number gives the circuit of the table with that source and number, with the place at which it stands, and none where the table
--- has none
+-- 02, E7: a lookup by number gives the circuit of the table with that source and number, with the place at which it stands, and none where the
+-- table has none
 pub circuit-exact : (r : Roster) → stands r ≡ true → (node n : ℕ) → onRing (tableOf r .nodes) node ≡ true → (v : Standing → ℕ)
     → weigh v (given (circuitOfRoster r node n))
     ≡ weigh (keyed (λ x. x .source) node (keyed (λ x. x .number) n (λ x. v (entered (tableOf r .channels) x)))) (circuits (tableOf r .channels))

@@ -117,6 +117,8 @@ module _ (N : ℕ) (ks : List ℕ) (t : Channels) (keys rests : List ℕ) (count
           rest = λ l. omega (arith, s .within l, survey-entered .rested);
         }
 
+        -- 02, E7: "every call on the new one gives what the old one gives": the passes over the entries see what the pass over the places of
+        -- the table sees
         pub survey-is : (r : Row) (x : Standing) → r ≡ rowIn (take count keys) (c .source) → x ≡ standingIn m keys rests n
             → record { numbered = v .numbered; sent = r .end - r .start; received = v .received; join = x; lit = v .lit } ≡ surveyOf N m t c
         survey-is r x row e =

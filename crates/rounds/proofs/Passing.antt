@@ -106,7 +106,8 @@ module _ (N m : ℕ) (t : Channels) where
   stands-lone : (s : Standing) → Lone m t s → Stands m t s
   stands-lone s h = record { low = h .0; there = h .1 }
 
-  -- where nothing is passed by, and where no direction has gained, the rows that are skipped have no pair that can be joined
+  -- Law: unless a direction has got an unlit place that had none, the search of a round may start at the row of the last pair: the rows
+  -- skipped have no pair that can be joined
   pub skipping : (before : Room) (from start : ℕ) → m ≤ length t → PassedBy N m t before from → start ≡ pick (gains m before (roomOf m t)) 0 from
       → Skipping (joinableIn N m (roomOf m t)) start (pairsOf (nonsharing m t))
   skipping before from start within h e = go (gains m before (roomOf m t)) refl
@@ -120,7 +121,7 @@ module _ (N m : ℕ) (t : Channels) where
           (h .none (pair .0) (pair .1) (k .0 .low, k .0 .there) (k .1 .low, k .1 .there) (k .2) (omega arith)))
           (pairsOf (nonsharing m t)) (pairs-stand m t within)
 
-  -- no row before that of the pair found has one
+  -- Law: no row before that of the pair that a round joins has a pair that can be joined
   pub passed-by : (room : Room) → m ≤ length t
       → PassedBy N m t room (firstHit (joinableIn N m room) (pairsOf (nonsharing m t)) .first .place)
   passed-by room within = record {
@@ -133,7 +134,7 @@ module _ (N m : ℕ) (t : Channels) where
   pub passed-none : (room : Room) → PassedBy N m t room 0
   passed-none room = record { none = λ a b la lb l k. absurd (omega arith) }
 
--- what is passed by is passed by after a round
+-- Law: a row that has none has none after a round
 pub passed-on : (N m : ℕ) (t t′ : Channels) (room : Room) (from : ℕ) → m ≤ placeCount → Settles t t′ → PassedBy N m t room from → PassedBy N m t′ room from
 passed-on N m t t′ room from low s h = record {
   none = λ a b la lb l k. h .none a b (was a la) (was b lb) l k;

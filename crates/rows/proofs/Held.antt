@@ -121,11 +121,11 @@ module _ (N : ℕ) (ks : List ℕ) (t : Channels) (keys rests : List ℕ) (count
     pub rests-same : length (take (r .end - r .start) (drop (r .start) rests)) ≡ length (take (r .end - r .start) (drop (r .start) keys))
     rests-same = length-take-le _ _ (omega (arith, held-order, held-rested, length-drop (r .start) rests)) ∙ sym keys-long
 
-    -- it is as long as the node sends circuits
+    -- 02, E7: where keys and rests hold a table, the row of a node is as long as the node sends circuits
     pub held-sends : r .end - r .start ≡ sends node (circuits t)
     held-sends = rw is (lengths .long ∙ row-sends node t)
 
-    -- and has the entries of the node
+    -- 02, E7: that row has the entries of the node
     pub held-row : entriesIn (take (r .end - r .start) (drop (r .start) keys)) (take (r .end - r .start) (drop (r .start) rests)) ≡ rowOf node (entries t)
     held-row =
         let l : r .start + (r .end - r .start) ≤ count = omega (arith, held-order, within) in

@@ -69,7 +69,7 @@ module _ (j k : ℕ) (m : Standing) (es : List Standing) where
       let b : 0 - rankOf j (map keyIn es) ≡ 0 = omega arith in
       rw (rank-none k (m ∷ es) h, rank-none k es (h .1), a, b)
 
--- from the start of a node's row to its end stand the entries of the node
+-- 02, E7: from the start of a node's row to its end stand the entries of the node
 pub row-entries : (node : ℕ) (es : List Standing) → Ordered es → All (λ m. inFields (m .circuit) ≡ true) es
     → take (rowIn (map keyIn es) node .end - rowIn (map keyIn es) node .start) (drop (rowIn (map keyIn es) node .start) es) ≡ rowOf node es
 unfolding rowKey keyOf
@@ -136,7 +136,7 @@ row-tally node (m ∷ es) = go (eqb (m .circuit .source) node) (row-tally node e
     go true r = omega arith
     go false r = omega arith
 
--- so how many circuits a node sends is read from its row
+-- 02, E7: a node's row has as many entries as the node sends circuits
 pub row-sends : (node : ℕ) (t : Channels) → length (rowOf node (entries t)) ≡ sends node (circuits t)
 row-sends node t = row-tally node (entries t) ∙ entries-circuits t (λ c. bit (eqb (c .source) node))
 
@@ -182,7 +182,7 @@ row-numbered node (m ∷ es) h f d = go (eqb (m .circuit .source) node) refl (ro
     go true e r = (all-map _ _ (above (eqb-true (m .circuit .source) node e)) (rowOf node es) (row-all Later node es later), r)
     go false e r = r
 
--- the row of a node in a table that meets the ring rules is by rising number
+-- 02, E7: the row of a node in a table that meets the ring rules is by rising number
 pub row-rises : (N : ℕ) (ks : List ℕ) (t : Channels) → Rules N ks t → Typed t → (node : ℕ) → Numbered (rowOf node (entries t))
 row-rises N ks t rules typed node =
     row-numbered node (entries t) (entries-ordered t) (all-map Written InFields (λ m w. w .0) (entries t) (entries-written N ks t rules typed))
@@ -208,7 +208,7 @@ key-entry node number m l f = same-test _ _ has is
         let n = eqb-true (m .circuit .number) number (and-right (eqb (m .circuit .source) node) _ e) in
         eq-eqb (keyIn m) (rowKey node + number) (omega arith)
 
--- the position among keys is that of the entry with that source and number, or how many entries there are
+-- 02, E7: the position of a node and a number among the keys is that of the entry with that source and number, or how many entries there are
 pub position-entry : (node number : ℕ) (es : List Standing) → number < 2 ^ 32 → All (λ m. inFields (m .circuit) ≡ true) es
     → positionIn (map keyIn es) node number ≡ firstPlace (λ m. eqb (m .circuit .source) node && eqb (m .circuit .number) number) es
 unfolding positionIn

@@ -42,6 +42,6 @@ module _ (can more : Sharing) (wider : (N : ℕ) (d : Direction) (a b : Circuit)
           at-every placeCount (λ p. sharesBy more N p (at t p))
           (λ p l. shares-wider N p (at t p) (every-at placeCount (λ p. sharesBy can N p (at t p)) was p l))
 
--- every table that met the ring rules before meets them now
+-- 02, E1: "Tables saved before remain good.": every table that met the ring rules before E1 meets them
 pub before-meets : (N : ℕ) (ks : List ℕ) (t : Channels) → ringRulesBeforeE1 N ks t ≡ true → ringRules N ks t ≡ true
 before-meets = rules-wider canShareBeforeE1 canShare before-can

@@ -123,6 +123,7 @@ module _ (ks : List ℕ) (u : List Slot) (c : Circuit) (full : Full ks u c) wher
         held-count i u,
       )
 
-  -- "p < K − 2W"
+  -- Paper: "p < K − 2W": where every place below 2 × W is lit and there are free ports for one more circuit, fewer than K − 2W of these places
+  -- are shared
   pub few-share : length (sharing u) + limitOf ks < total ks
   few-share = omega (arith, senders 0, lit-count 0 u (full .lit), full .usable)

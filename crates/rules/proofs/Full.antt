@@ -26,7 +26,8 @@ use Rattle.rules.proofs.Counting.{Settled, Full, settled}
 
 module _ (N : ℕ) (ks : List ℕ) (t : Channels) (c : Circuit) (rules : Rules N ks t) (may : Allowable N ks t c)
     (lit : (p : ℕ) → p < limitOf ks → isUnlit (at t p) ≡ false) where
-  -- the usable places are full
+  -- Paper: a table that meets the ring rules, with every place below 2 × W lit, and a circuit that its ports permit are what the counting asks
+  -- for
   pub table-full : Full ks (take (limitOf ks) (slots t)) c
   table-full =
       let k = limits-hold N ks t rules in

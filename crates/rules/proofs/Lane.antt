@@ -75,7 +75,8 @@ all-shared (unlit ∷ u) l h = absurd (true≢false (l .0))
 all-shared (alone a ∷ u) l h = absurd (true≢false (h .0))
 all-shared (shared a b ∷ u) l h = omega (arith, all-shared u (l .1) (h .1))
 
--- "the number of sharing session pairs is less than the number of directed wavelengths in each ring direction"
+-- Paper: the second claim, "the number of sharing session pairs is less than the number of directed wavelengths in each ring direction": on
+-- such a ring each direction has a nonsharing circuit
 pub alone-exists : (ks : List ℕ) (u : List Slot) (c : Circuit) → Full ks u c → (d : Direction)
     → (w : ℕ) × (w < wavelengths ks) × (isAlone (getD u (placeOf w d) unlit) ≡ true)
 alone-exists ks u c full d = go (decLt (firstPlace isAlone (lane d u)) (length (lane d u)))

@@ -165,7 +165,7 @@ module _ (ks : List ℕ) (u : List Slot) (new : Standing) (full : Full ks u (new
           length-append (aloneFrom 0 u) (new ∷ []),
         )
 
-  -- "which contradicts the above established fact": the search for an adjacent pair finds one
+  -- Paper: the first claim, "which contradicts the above established fact": on such a ring the search for an adjacent pair finds one
   pub pair-exists : firstPlace adjacentPair (pairsOf (sessions u new)) < length (pairsOf (sessions u new))
   pair-exists = go (decLt (firstPlace adjacentPair (pairsOf (sessions u new))) (length (pairsOf (sessions u new))))
     where

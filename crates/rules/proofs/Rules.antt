@@ -22,7 +22,7 @@ use Rattle.rules.specs.Rules.{sized, unlitFrom, ends, portsHold, shares,
 abbrev pub PortsHold : List ℕ → List Circuit → Type 0
 PortsHold ks cs = (j : ℕ) → j < length ks → (sends (suc j) cs ≤ getD ks j 0) × (receives (suc j) cs ≤ getD ks j 0)
 
--- the nodes from i on
+-- 01: a table that meets the ring rules has at no node more circuits sent, or more received, than the node has port pairs
 pub ports-from : (i : ℕ) (ks : List ℕ) (cs : List Circuit) → portsHold i ks cs ≡ true → (j : ℕ) → j < length ks
     → (sends (i + j) cs ≤ getD ks j 0) × (receives (i + j) cs ≤ getD ks j 0)
 ports-from i [] cs h j l = absurd (not-suc-le-zero l)

@@ -39,7 +39,7 @@ pub reads-valid : {input output : List ℕ} {s : Session} → Reads input output
 reads-valid started = start-valid startSession refl
 reads-valid (fed h room t) = t .valid
 
--- the whole program: with what `finish` writes after the reads, the bytes written are those that the script prints
+-- 01: what the program writes, read by read and at the end, is what the script of all the bytes read prints
 pub program-prints : {input output l l′ : List ℕ} {s : Session} {n : ℕ} → Reads input output s → answerRoom ≤ length l
     → Finished s l l′ n → output ++ take n l′ ≡ scriptText input
 program-prints {input} h room f = rw (reads-text h, written (f .text) room ∙ ap endText (reads-state h)) (bytes-by-lines input)

@@ -106,7 +106,8 @@ module _ (N : ℕ) (ks : List ℕ) (t t₁ t₂ : Channels) (x : Circuit) (p : �
           same-moved : bit (movedTo t₁ t₂ k) ≡ bit (movedTo t t₂ k)
           same-moved = rw (same-place k n some)
 
-  -- all is kept from before to the end
+  -- Law: where one circuit is taken off and opened again, its own record and then those of the opening name each circuit that has moved, once
+  -- and with both places
   pub kept-again : Kept N ks t [] [] t₂ (ownMove t x p ∷ ms)
   kept-again =
       kept-from N ks t [] [] t₂ (ownMove t x p ∷ ms) rules (second .rules) (λ w. omega (arith, first .exact w, second .exact w)) (
@@ -114,6 +115,6 @@ module _ (N : ℕ) (ks : List ℕ) (t t₁ t₂ : Channels) (x : Circuit) (p : �
         all-map _ _ names ms (second .named),
       ) once
 
-  -- and a host that carries out the records has it
+  -- Law: a host that carries out these records has the second table
   pub follows-again : relocated t (ownMove t x p ∷ ms) ≡ t₂
   follows-again = relocates N ks t t₂ (ownMove t x p ∷ ms) rules kept-again

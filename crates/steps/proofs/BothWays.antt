@@ -46,7 +46,8 @@ module _ (N m : ℕ) (t : Channels) (c : Circuit) (within : m ≤ length t) (rea
   first-right : hops N (a .circuit) + hops N (b .circuit) ≡ N → standsRight N a b a ≡ true
   first-right total = stands-right N a b a meet total (omega (arith, couple .0 .low, ready .low))
 
-  -- where its hops total N, both members are old, 3a applies, and the lower place stays
+  -- 02, E1: "3a applies: the lower place stays": where step 3 finds a pair whose hops total N, both members are old, and the one at the lower
+  -- place stays
   pub return-stays : hops N (a .circuit) + hops N (b .circuit) ≡ N
       → (a .place < b .place) × (b .place < nowhere) × (planOf N m t c ≡ oneMove c a b (looks m t c))
   unfolding planOf
@@ -56,7 +57,7 @@ module _ (N m : ℕ) (t : Channels) (c : Circuit) (within : m ≤ length t) (rea
     rw (le-ltb (joinPlace N m t c) m none, le-ltb (unlitPlace N m t c) m lit, first-right total),
   )
 
-  -- where the first member does not stand right, as in 3b, they can share in one direction only
+  -- 02, E1: where the first member of the pair does not stand right, as in 3b, the pair can share in one direction only
   pub exchange-direction : standsRight N a b a ≡ false → (d : Direction) → canShare N d (a .circuit) (b .circuit) ≡ true
       → d ≡ shareDirection N (a .circuit) (b .circuit)
   exchange-direction wrong d can =

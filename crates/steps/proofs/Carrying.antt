@@ -358,11 +358,12 @@ module _ (N : ℕ) (ks : List ℕ) (t : Channels) (gone new : List Circuit) (t�
       (all-map _ _ (λ c h. stands-then (c .number) (new-stays (c .number) h)) new (counted (λ c. c .number) new))))
       balance
 
--- where no circuit comes and none goes, the records lead to the second table
+-- 01: "All listed circuits are taken down before any is set up.": where no circuit comes and none goes, carrying out the records gives the
+-- second table, whatever made them and in whatever order they stand
 pub relocates : (N : ℕ) (ks : List ℕ) (t t′ : Channels) (ms : List Move) → Rules N ks t → Kept N ks t [] [] t′ ms → relocated t ms ≡ t′
 relocates N ks t t′ ms rules kept = carried-out N ks t [] [] t′ ms rules kept (none-goes t t′)
 
--- and so they do where one is opened, which is set up last, at the place that it has there
+-- 01: where one circuit is opened, carrying out the records and then setting it up at its place gives the second table
 pub follows-to : (N : ℕ) (ks : List ℕ) (t t′ : Channels) (ms : List Move) (c : Circuit) (p : ℕ) → Rules N ks t → Kept N ks t [] (c ∷ []) t′ ms
     → whereIs t′ (c .number) ≡ p → followed t ms c p ≡ t′
 unfolding followed

@@ -171,7 +171,8 @@ module _ (N : ℕ) (ks : List ℕ) (t t₁ t₂ : Channels) (ms ns : List Move) 
         now = h .0 .now;
       }
 
-  -- all is kept over both
+  -- Law: what one operation keeps, and then another in which no circuit moves that moved in the first, is kept over both: the records of the
+  -- one and then of the other name each moved circuit once, with both places
   pub kept-then : Kept N ks t [] [] t₂ (ms ++ ns)
   kept-then =
       kept-from N ks t [] [] t₂ (ms ++ ns) rules (second .rules) (λ w. omega (arith, first .exact w, second .exact w))

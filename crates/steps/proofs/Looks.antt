@@ -40,7 +40,7 @@ module _ (N m : ℕ) (t : Channels) (c : Circuit) (ready : Ready N m t c) where
   few-pairs : length (pairsOf (candidates m t c)) ≤ 8256
   few-pairs = omega (arith, pairs-length (candidates m t c), few-candidates, mul-le-mul-right (length (candidates m t c)) few-candidates)
 
-  -- of which one is found
+  -- 01: looks is "never above 8,256"
   pub plan-looks : planOf N m t c .looks ≤ 8256
   unfolding planOf
   plan-looks = go (ltb (joinPlace N m t c) m) refl (ltb (unlitPlace N m t c) m) refl

@@ -24,13 +24,15 @@ module _ (N m : ℕ) (t : Channels) (c : Circuit) where
   join-passes : joinPlace N m t c < m → canJoin N c (joinPlace N m t c) (at t (joinPlace N m t c)) ≡ true
   join-passes l = first-passes m (λ p. canJoin N c p (at t p)) l
 
+  -- 01: the circuit that step 1 joins stands alone, at a place below 2 × W
   pub join-stands : joinPlace N m t c < m → Stands m t (standingAt t (joinPlace N m t c))
   join-stands l = let h = join-passes l in stands-alone m t (joinPlace N m t c) l (search (and-left, and-right))
 
+  -- 01: the new circuit can share with the one that step 1 joins "in that place's direction"
   pub join-can : joinPlace N m t c < m → canShare N (directionOf (joinPlace N m t c)) (standingAt t (joinPlace N m t c) .circuit) c ≡ true
   join-can l = let h = join-passes l in search (and-left, and-right)
 
-  -- it is the first by rising place, whichever direction that has
+  -- 01: "The new one joins the first": none that it can share with there stands at a lower place, whichever direction that has
   pub join-least : (a : Standing) → Stands m t a → canShare N (directionOf (a .place)) (a .circuit) c ≡ true → joinPlace N m t c ≤ a .place
   join-least a sa can = go (decLt (a .place) (joinPlace N m t c))
     where
@@ -38,7 +40,7 @@ module _ (N m : ℕ) (t : Channels) (c : Circuit) where
       go (yes l) = absurd (true≢false (sym can ∙ rw (sa .there) at (before-fails m (λ p. canJoin N c p (at t p)) (a .place) l)))
       go (no n) = omega arith
 
-  -- where it finds none, the new one can share with none
+  -- 01: where step 1 joins none, the new one can share with none where it stands
   pub none-joins : m ≤ joinPlace N m t c → (a : Standing) → Stands m t a → canShare N (directionOf (a .place)) (a .circuit) c ≡ false
   none-joins n a sa = rw (sa .there) at (none-passes-below m (λ p. canJoin N c p (at t p)) n (a .place) (sa .low))
 

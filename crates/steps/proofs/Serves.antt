@@ -30,7 +30,8 @@ gets-low m [] p x low g = absurd g
 gets-low m (ch ∷ chs) p x low (inl g) = rw (g .0) (low .0)
 gets-low m (ch ∷ chs) p x low (inr g) = gets-low m chs p x (low .1) g
 
--- sound changes below the limit that give c to place p open c at p
+-- 01: "those from 2 × W up stay unlit": sound changes below the limit that give c to place p open c at p, which is below it, and every place
+-- from it up holds what it held
 pub serves : (N : ℕ) (ks : List ℕ) (t : Channels) (c : Circuit) (chs : List Change) (p : ℕ) (stay : List Standing) (go : List Shift)
     → Rules N ks t → Allowable N ks t c → Sound N t [] (c ∷ []) chs stay go → All (λ ch. ch .place < limitOf ks) chs → Gets chs p c
     → length go ≤ mostMoves → PlanKeeps N ks t c (puts chs t) p (shifts go)

@@ -43,7 +43,7 @@ module _ (N m : ℕ) (t : Channels) (c : Circuit) where
       go (yes l) = inl (l, rw (lt-ltb near m l))
       go (no n) = let l : m ≤ near = omega arith in inr (l, rw (le-ltb near m l))
 
-  -- a place that it finds is unlit
+  -- 02, E6: a place that step 2 finds is unlit
   pub unlit-found : unlitPlace N m t c < m → at t (unlitPlace N m t c) ≡ unlit
   unlit-found l = go chosen
     where
@@ -65,6 +65,8 @@ module _ (N m : ℕ) (t : Channels) (c : Circuit) where
       pub equal : directionOf p ≡ clockwise → linksUsed N clockwise c ≤ linksUsed N (directionOf (unlitPlace N m t c)) c
           → directionOf (unlitPlace N m t c) ≡ clockwise
 
+    -- 02, E6: where a place below the limit is unlit, step 2 finds one. Beside it, the place found uses no more links, is clockwise where it
+    -- uses as many and that one is, and is the lower of one direction
     pub beside : Beside
     beside = go chosen (either-way (directionOf p) way)
       where
@@ -91,11 +93,11 @@ module _ (N m : ℕ) (t : Channels) (c : Circuit) where
               equal = λ e h. d ∙ sym s ∙ e;
             }
 
-    -- where p is of the shorter way, the lightpath uses at most half of the links
+    -- 02, E6: where a place of the shorter way is unlit, the lightpath uses at most half of the links
     pub unlit-half : directionOf p ≡ shorterWay N c → linksUsed N (directionOf (unlitPlace N m t c)) c ≤ N / 2
     unlit-half s = omega (arith, rw s at (beside .fewest), shorter-half N c)
 
-  -- where it finds none, all are lit
+  -- 02, E6: "and goes to the other direction only if none is unlit": where step 2 finds no place, every place below the limit is lit
   pub none-unlit : m ≤ unlitPlace N m t c → (p : ℕ) → p < m → isUnlit (at t p) ≡ false
   none-unlit n p l = go (isUnlit (at t p)) refl
     where

@@ -115,7 +115,8 @@ module _ (N : ℕ) (ks : List ℕ) (t : Channels) (c : Circuit) (rules : Rules N
         rearranged (foundPair m t c .0) (foundPair m t c .1) (looks m t c) (f .0) (f .1) (f .2)
         (found-passes adjacentPair (newcomer c, newcomer c) (pairsOf (candidates m t c)) found)
 
-  -- the steps in their order
+  -- 02, E6: "Serving every opening that the ports permit, with three moves at most": in a table that meets the ring rules the steps place
+  -- every circuit that the ports permit
   pub plan-serves : Good N ks t c (planOf N (limitOf ks) t c)
   unfolding planOf
   plan-serves = go (ltb (joinPlace N m t c) m) refl (ltb (unlitPlace N m t c) m) refl

@@ -44,7 +44,7 @@ read-back limit =
     (λ n h ih s. let e : n / 10 * 10 + n % 10 ≡ n = omega arith in
     rw (decimal-large n h, append-assoc) (ih ((48 + n % 10) ∷ s) ∙ one-more limit (n / 10) (n % 10) s (omega arith) ∙ rw e))
 
--- a number below the limit, printed and read, is the number
+-- Law: a number below the limit, printed and read, is the number
 pub there-and-back : (limit n : ℕ) → n < limit → number limit (decimal n) ≡ Got n
 unfolding numberAfter
 there-and-back limit n h = rw (← append-nil (decimal n)) (read-back limit n [] ∙ rw (lt-ltb n limit h))

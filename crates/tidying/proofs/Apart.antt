@@ -40,12 +40,15 @@ module _ (N m : ℕ) (t : Channels) (within : m ≤ length t) (low : m ≤ place
   not-right : (x : Standing) → Stands m t x → standsRight N a b x ≡ false → canShare N (directionOf (x .place)) (a .circuit) (b .circuit) ≡ false
   not-right x s e = rw (lt-ltb (x .place) nowhere (omega (arith, s .low))) at e
 
+  -- 02, E5: where no pair can be joined, two circuits alone below 2 × W cannot share in the direction of the lower one's place
   pub first-apart : canShare N (directionOf (a .place)) (a .circuit) (b .circuit) ≡ false
   first-apart = not-right a sa (neither .0)
 
+  -- 02, E5: nor can they in the direction of the higher one's place
   pub second-apart : canShare N (directionOf (b .place)) (a .circuit) (b .circuit) ≡ false
   second-apart = not-right b sb (neither .1)
 
+  -- 02, E5: nor can they in the direction of an unlit place below 2 × W; none of this speaks of the test by which rounds pass pairs over
   pub unlit-apart : (p : ℕ) → p < m → at t p ≡ unlit → canShare N (directionOf p) (a .circuit) (b .circuit) ≡ false
   unlit-apart p i dark = go (canShare N (directionOf p) (a .circuit) (b .circuit)) refl
     where

@@ -55,13 +55,14 @@ module _ (N m : ℕ) (t : Channels) (within : m ≤ length t) (can : canRound N 
     right-is : (x : Standing) → Stands m t x → standsRight N a b x ≡ canShare N (directionOf (x .place)) (a .circuit) (b .circuit)
     right-is x s = rw (lt-ltb (x .place) nowhere (omega (arith, s .low)))
 
-    -- where the one at the lower place stands in a direction in which they can share, it stays, whether or not the other does so too
+    -- 02, E5: "the lower place staying when both do": where the member at the lower place stands in a direction in which the pair can share,
+    -- it stays, whether or not the other does so too
     pub lower-stays : canShare N (directionOf (a .place)) (a .circuit) (b .circuit) ≡ true
         → (a .place < b .place) × (roundOf N m t .moves ≡ movesTo b (a .place) ∷ [])
     lower-stays first = (round-pair .2, rw (right-is a (round-pair .0), first))
 
     module _ (wrong : canShare N (directionOf (a .place)) (a .circuit) (b .circuit) ≡ false) where
-      -- where only the other does, that one stays
+      -- 02, E5: where only the member at the higher place does, that one stays
       pub higher-stays : canShare N (directionOf (b .place)) (a .circuit) (b .circuit) ≡ true → roundOf N m t .moves ≡ movesTo a (b .place) ∷ []
       higher-stays second = rw (right-is a (round-pair .0), wrong, right-is b (round-pair .1), second)
 
@@ -78,22 +79,22 @@ module _ (N m : ℕ) (t : Channels) (within : m ≤ length t) (can : canRound N 
         there : (adjacent (a .circuit) (b .circuit) && ltb p m) ≡ true
         there = rw (right-is a (round-pair .0), wrong, right-is b (round-pair .1), neither) at round-joinable
 
-        -- it is below m,
+        -- 02, E5: where neither does, both move to a place below 2 × W
         pub unlit-below : p < m
         unlit-below = ltb-true _ _ (and-right (adjacent (a .circuit) (b .circuit)) _ there)
 
-        -- unlit, and of a direction in which they can share,
+        -- 02, E5: that place is unlit, and of a direction in which they can share
         pub unlit-shares : (isUnlit (at t p) ≡ true) × (canShare N (directionOf p) (a .circuit) (b .circuit) ≡ true)
         unlit-shares = (
           lowest-passes isUnlit m t d unlit-below,
           rw (lowest-direction isUnlit m t d unlit-below) (can-one N (a .circuit) (b .circuit) (and-left _ _ there)),
         )
 
-        -- the lowest such place,
+        -- 02, E5: "both move to the lowest such place": none lower is unlit and of such a direction
         pub unlit-lowest : (q : ℕ) → q < m → isUnlit (at t q) ≡ true → canShare N (directionOf q) (a .circuit) (b .circuit) ≡ true → p ≤ q
         unlit-lowest q l dark shares =
             lowest-least isUnlit m t d q l (can-other N (directionOf (a .place)) (directionOf q) (a .circuit) (b .circuit) wrong shares) dark
 
-        -- and the one from the lower place is named first
+        -- 02, E5: "lower old place first": the member from the lower place is named first
         pub lower-first : (a .place < b .place) × (roundOf N m t .moves ≡ movesTo a p ∷ movesTo b p ∷ [])
         lower-first = (round-pair .2, rw (right-is a (round-pair .0), wrong, right-is b (round-pair .1), neither))

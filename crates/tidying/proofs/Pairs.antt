@@ -138,6 +138,6 @@ round-joining N m t within =
     round-by N m t within (λ r. Joining t (r .changes)) (λ a b sa sb n can. member-joining m t within a b sa sb n)
     (λ p a b l dark sa sb n can. unlit-joining m t within p a b l dark sa sb n)
 
--- and leaves two fewer alone
+-- 02, E5: a round leaves two circuits fewer alone
 pub round-lone : (N m : ℕ) (t : Channels) → m ≤ length t → canRound N m t ≡ true → aloneCount (rounded N m t) + 2 ≡ aloneCount t
 round-lone N m t within can = joining-lone t (roundOf N m t .changes) (round-joining N m t within can)

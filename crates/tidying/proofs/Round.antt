@@ -105,6 +105,7 @@ module _ (N : ℕ) (ks : List ℕ) (t : Channels) (rules : Rules N ks t) where
         );
       }) (l, (sa .low, (sb .low, tt))) j (omega arith) (rw (sa .there) refl, (rw (sb .there) refl, tt))
 
-  -- so each round does
+  -- 02, E5: "Each lowers the lit places by exactly one": a round does, keeps the circuits, the ports and the ring rules, leaves the places
+  -- from 2 × W up, and names its moves, at most two, with both places
   pub round-keeps : canRound N m t ≡ true → Keeps N ks t (roundOf N m t)
   round-keeps = round-by N m t within (Keeps N ks t) member-keeps both-keep

@@ -52,7 +52,7 @@ settles-then t t₁ t₂ s r = record {
 still : (t t′ : Channels) (k q : ℕ) → whereIs t k ≡ q → whereIs t′ k ≡ q → bit (movedTo t t′ k) ≡ 0
 still t t′ k q e f = rw (e, f, eq-eqb q q refl, and-false (ltb q placeCount))
 
--- so by two such steps no circuit moves twice: where it stands between them, it is alone and has not moved, or shares and will not
+-- 02, E5: by two such steps no circuit moves twice: where it stands between them, it is alone and has not moved, or shares and will not
 pub no-twice : (N : ℕ) (ks : List ℕ) (t t₁ t₂ : Channels) → Rules N ks t → Rules N ks t₁ → Rules N ks t₂ → ((k : ℕ) → live t k ≡ live t₁ k)
     → Settles t t₁ → Settles t₁ t₂ → AtMostOnce t t₁ t₂
 no-twice N ks t t₁ t₂ rules rules₁ rules₂ same s r k l = go (at t₁ q) refl
@@ -73,7 +73,8 @@ no-twice N ks t t₁ t₂ rules rules₁ rules₂ same s r k l = go (at t₁ q) 
     go (shared a b) e =
         omega (arith, still t₁ t₂ k q refl (stands-at t₂ (rules₂ .numbers) k q low (rw (r .firm q low (rw e refl)) there)), bit-most (movedTo t t₁ k))
 
--- changes of places where no two share, which leave no circuit alone there, are such
+-- 02, E5: changes of places where no two share, which leave none alone there, are such: two that share stay, and one that is alone afterwards
+-- was alone at that place before
 pub settles-puts : (chs : List Change) (t : Channels) → length t ≡ placeCount → Within t chs → All (λ ch. isShared (at t (ch .place)) ≡ false) chs
     → All (λ ch. isAlone (ch .slot) ≡ false) chs → Settles t (puts chs t)
 settles-puts chs t long within were get = record {

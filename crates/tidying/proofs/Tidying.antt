@@ -147,14 +147,15 @@ pub none-joinable : (N m : ℕ) (t : Channels) → canRound N m t ≡ false → 
 none-joinable N m t e = none-passes (joinable N m t) (pairsOf (nonsharing m t)) (λ l. true≢false (sym (lt-ltb _ _ l) ∙ e))
 
 module _ (N : ℕ) (ks : List ℕ) (t : Channels) (rules : Rules N ks t) where
-  -- a tidying is at most 64 rounds
+  -- 02, E5: "there are at most 64": a tidying is at most 64 rounds and 128 moves; each circuit that has moved is named once, and carrying out
+  -- the records gives the second table
   pub tidying-does : Rounds mostRounds N ks t (tidyUp N (limitOf ks) t)
   tidying-does = rounds-do N ks mostRounds t rules
 
-  -- afterwards no pair can be joined
+  -- 02, E5: "Rounds go on until no pair can be joined.": afterwards no pair can be joined
   pub tidying-done : canRound N (limitOf ks) (tidyUp N (limitOf ks) t .places) ≡ false
   tidying-done = tidying-does .done (omega (arith, alone-most t, limits-hold N ks t rules .long))
 
-  -- so a tidied table tidied again is itself, with no rounds
+  -- 02, E5: a tidied table tidied again is itself, with no rounds
   pub tidying-again : tidyUp N (limitOf ks) (tidyUp N (limitOf ks) t .places) ≡ untouched (tidyUp N (limitOf ks) t .places)
   tidying-again = tidied-already mostRounds N (limitOf ks) (tidyUp N (limitOf ks) t .places) tidying-done
