@@ -58,7 +58,7 @@ module _ (t : RingTable) (meets : meetsRules t ≡ true) (l w : ℕ) (d : Direct
   abbrev there : List Circuit
   there = held (at (t .channels) (placeOf w d))
 
-  -- 01: on a ring that meets the rules at most one circuit of a place uses a link
+  -- Law: on a ring that meets the rules at most one circuit of a place uses a link
   pub one-runs : weigh (λ c. bit (uses (t .nodes) d c l)) there ≤ 1
   unfolding users
   one-runs =

@@ -70,7 +70,7 @@ module _ (N : ℕ) (ks : List ℕ) (t : Channels) (rules : Rules N ks t) (d : Di
   pub load-most : linkLoad N t d l ≤ wavelengths ks
   load-most = below-most mostWavelengths (omega arith) .1
 
--- 01: each byte of the load report is at most W
+-- Law: each byte of the load report is at most W
 pub loads-most : (t : RingTable) → meetsRules t ≡ true → All (λ b. b ≤ wavelengths (t .ports)) (loads (t .nodes) (t .channels))
 unfolding loadsTo
 loads-most t meets = upTo (t .nodes) (omega arith)

@@ -51,7 +51,7 @@ module _ (form : List ℕ) (accepted : readOf form .verdict ≡ granted) (l w : 
   unfolding ringLink
   same = rw accepted
 
-  -- 01: on the ring of a form that is accepted at most one circuit of a place uses a link
+  -- Law: on the ring of a form that is accepted at most one circuit of a place uses a link
   pub form-one : weigh (λ c. bit (uses (t .nodes) d c l)) there ≤ 1
   form-one = one-runs t (read-meets form accepted) l w d low high
 

@@ -84,7 +84,7 @@ module _ (t : RingTable) (n : ℕ) (rules : meetsRules t ≡ true) where
   pub close-refuses : live (t .channels) n ≡ false → NotTaken t 15 (closeOf t n)
   close-refuses d = subst (NotTaken t 15) (sym (close-dead d)) (record { answer = refl; same = refl })
 
-  -- 01: whatever a closing answers, the table after it meets the ring rules
+  -- Law: whatever a closing answers, the table after it meets the ring rules
   pub close-rules : meetsRules (closeOf t n .table) ≡ true
   close-rules = go (live (t .channels) n) refl
     where

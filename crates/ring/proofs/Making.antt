@@ -66,7 +66,7 @@ fresh-meets N ks g =
     (eqb-true (length ks) N (search (and-left, and-right))) (not-false (eachAtMost 64 ks) (h .1 .0))
     (leb-true (total ks) 192 (not-false (leb (total ks) 192) (h .1 .1 .0))))
 
--- 01: a ring that is made meets the ring rules
+-- Law: a ring that is made meets the ring rules
 pub make-rules : (N : ℕ) (ks : List ℕ) → makeOf N ks .verdict ≡ granted → meetsRules (makeOf N ks .table) ≡ true
 unfolding makeOf
 make-rules N ks e = go (judged (makeCauses N ks)) refl e
