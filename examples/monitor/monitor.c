@@ -19,6 +19,14 @@ static void print_circuit(const char *way, uint64_t answer)
     }
 }
 
+/* Whether all that was printed is written: a full disk is seen only here. */
+static int all_written(void)
+{
+    int failed = ferror(stdout);
+
+    return fclose(stdout) == 0 && !failed;
+}
+
 int main(int argc, char **argv)
 {
     static uint8_t form[FORM_ROOM];
@@ -26,6 +34,7 @@ int main(int argc, char **argv)
     uint64_t link;
     uint64_t wavelength;
     size_t length;
+    int status = 0;
     FILE *file;
 
     if (argc != 2) {
@@ -62,7 +71,11 @@ int main(int argc, char **argv)
     }
     if (answer != RING_NONE + RING_NO_LINK) {
         printf("form refused %d\n", RING_REFUSAL(answer));
-        return 1;
+        status = 1;
     }
-    return 0;
+    if (!all_written()) {
+        fputs("standard output: not all was written\n", stderr);
+        status = 1;
+    }
+    return status;
 }
