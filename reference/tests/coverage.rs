@@ -7,14 +7,14 @@ use common::{
     circuit, coverage_of, read_line, ring, ring_of_01, ring_where_first_fits,
     ring_where_second_fits, ring_with_return, standing,
 };
-use ring::circuit::Circuit;
-use ring::coverage::{
+use second_controller::circuit::Circuit;
+use second_controller::coverage::{
     grid_events, Coverage, Event, GridEvent, LineFault, Off, Way, PLAN_EVENTS, SCRIPT_EVENTS,
 };
-use ring::form::Fault;
-use ring::place::Direction::{Clockwise, Counterclockwise};
-use ring::place::Place;
-use ring::table::{Channel, Table};
+use second_controller::form::Fault;
+use second_controller::place::Direction::{Clockwise, Counterclockwise};
+use second_controller::place::Place;
+use second_controller::table::{Channel, Table};
 
 /// The planner reads the table and opens the circuit; both count.
 fn coverage(table: &Table, new: Circuit) -> Coverage {

@@ -3,11 +3,11 @@
 mod common;
 
 use common::{circuit, open, ring, ring_of_01, standing, tables};
-use ring::circuit::Circuit;
-use ring::form::{read, write, FORM_MOST};
-use ring::generator::Kind;
-use ring::refusal::Refusal;
-use ring::table::Table;
+use second_controller::circuit::Circuit;
+use second_controller::form::{read, write, FORM_MOST};
+use second_controller::generator::Kind;
+use second_controller::refusal::Refusal;
+use second_controller::table::Table;
 
 fn form_of(table: &Table) -> Vec<u8> {
     let mut buffer = vec![0xEE; FORM_MOST + 7];

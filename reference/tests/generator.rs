@@ -2,16 +2,16 @@
 
 use std::collections::BTreeSet;
 
-use ring::comparison::Expected;
-use ring::coverage::{Coverage, Event};
-use ring::form::{read, FORM_MOST};
-use ring::generator::{crowded_form, dear_form, form, script, Generator, Kind};
-use ring::opening::Move;
-use ring::place::Direction::{Clockwise, Counterclockwise};
-use ring::plan::{hexadecimal, parse, Answer, Command, Planner, Question, Source};
-use ring::program::Program;
-use ring::script;
-use ring::table::{Channel, Table};
+use second_controller::comparison::Expected;
+use second_controller::coverage::{Coverage, Event};
+use second_controller::form::{read, FORM_MOST};
+use second_controller::generator::{crowded_form, dear_form, form, script, Generator, Kind};
+use second_controller::opening::Move;
+use second_controller::place::Direction::{Clockwise, Counterclockwise};
+use second_controller::plan::{hexadecimal, parse, Answer, Command, Planner, Question, Source};
+use second_controller::program::Program;
+use second_controller::script;
+use second_controller::table::{Channel, Table};
 
 const PROGRAMS: [Program; 2] = [Program::Script, Program::Plan];
 const KINDS: [Kind; 5] = [Kind::Small, Kind::Large, Kind::Mixed, Kind::Light, Kind::Forms];

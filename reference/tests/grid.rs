@@ -1,9 +1,9 @@
 //! Frequency plans: there and back, their refusals, and the planning program's two lines on them.
 
-use ring::grid::{FrequencyPlan, SPACINGS};
-use ring::place::Wavelength;
-use ring::plan::{Planner, LINE_MOST};
-use ring::refusal::Refusal;
+use second_controller::grid::{FrequencyPlan, SPACINGS};
+use second_controller::place::Wavelength;
+use second_controller::plan::{Planner, LINE_MOST};
+use second_controller::refusal::Refusal;
 
 fn plan(spacing: u32, start: i32) -> FrequencyPlan {
     FrequencyPlan { spacing, start }

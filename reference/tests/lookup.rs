@@ -9,14 +9,14 @@ use common::{
     answer, answer_on, circuit, coverage_of, plan_tables, read_line, ring, ring_of_01, run_on_form,
     standing,
 };
-use ring::circuit::Circuit;
-use ring::coverage::{Event, LookupEvent, LOOKUP_EVENTS};
-use ring::form;
-use ring::generator::{self, Kind};
-use ring::lookup::circuits_from;
-use ring::plan::LINE_MOST;
-use ring::refusal::Refusal;
-use ring::table::{Lightpath, Table};
+use second_controller::circuit::Circuit;
+use second_controller::coverage::{Event, LookupEvent, LOOKUP_EVENTS};
+use second_controller::form;
+use second_controller::generator::{self, Kind};
+use second_controller::lookup::circuits_from;
+use second_controller::plan::LINE_MOST;
+use second_controller::refusal::Refusal;
+use second_controller::table::{Lightpath, Table};
 use LookupEvent::*;
 
 /// From node 1 three circuits, opened out of order: 9 and 4 use fewer links clockwise, 30

@@ -3,9 +3,9 @@
 mod common;
 
 use common::{circuit, open, ring};
-use ring::circuit::Circuit;
-use ring::refusal::Refusal;
-use ring::table::{wavelengths_for, Channel, Rule, Table};
+use second_controller::circuit::Circuit;
+use second_controller::refusal::Refusal;
+use second_controller::table::{wavelengths_for, Channel, Rule, Table};
 
 #[test]
 fn wavelengths_are_a_third_of_the_ports_rounded_up() {

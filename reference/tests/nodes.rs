@@ -4,11 +4,11 @@
 mod common;
 
 use common::{answer, answer_on, circuit, coverage_of, plan_tables, ring_of_01, standing};
-use ring::coverage::{Event, LookupEvent, NodesEvent, NODES_EVENTS, RECEIVED_EVENTS};
-use ring::generator::Kind;
-use ring::lookup::{circuits_from, circuits_to, nodes};
-use ring::refusal::Refusal;
-use ring::table::Lightpath;
+use second_controller::coverage::{Event, LookupEvent, NodesEvent, NODES_EVENTS, RECEIVED_EVENTS};
+use second_controller::generator::Kind;
+use second_controller::lookup::{circuits_from, circuits_to, nodes};
+use second_controller::refusal::Refusal;
+use second_controller::table::Lightpath;
 
 /// To node 1 three circuits, opened out of order; 30 goes the shorter way, counterclockwise.
 const OPENINGS: [&str; 5] =

@@ -6,13 +6,13 @@ use common::{
     check_moves, circuit, circuits_by_number, open, record, ring, ring_of_01,
     ring_where_first_fits, ring_where_second_fits, ring_with_return, standing, tables, UNWRITTEN,
 };
-use ring::circuit::Circuit;
-use ring::generator::Kind;
-use ring::opening::{Move, Opening};
-use ring::place::{Direction, Place};
-use ring::random::Random;
-use ring::refusal::Refusal;
-use ring::table::{Channel, Table};
+use second_controller::circuit::Circuit;
+use second_controller::generator::Kind;
+use second_controller::opening::{Move, Opening};
+use second_controller::place::{Direction, Place};
+use second_controller::random::Random;
+use second_controller::refusal::Refusal;
+use second_controller::table::{Channel, Table};
 
 fn answer(place: u8, moves: usize, looks: u32) -> Result<Opening, Refusal> {
     Ok(Opening { place: Place(place), moves, looks })

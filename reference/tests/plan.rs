@@ -8,12 +8,12 @@ use std::fs;
 use std::io::BufReader;
 use std::path::PathBuf;
 
-use ring::form::FORM_MOST;
-use ring::generator::{Generator, Kind};
-use ring::lines::words;
-use ring::plan::{hexadecimal, run, Answer, Planner, LINE_MOST};
-use ring::program::Program;
-use ring::script::Desk;
+use second_controller::form::FORM_MOST;
+use second_controller::generator::{Generator, Kind};
+use second_controller::lines::words;
+use second_controller::plan::{hexadecimal, run, Answer, Planner, LINE_MOST};
+use second_controller::program::Program;
+use second_controller::script::Desk;
 
 /// The script's answers from a planner that relies on its table and one that checks it.
 fn answer(script: &[u8]) -> String {

@@ -5,13 +5,13 @@ mod common;
 use std::process::Output;
 
 use common::{circuit, open, plan_tables, ring, run_on_form, standing, tables};
-use ring::form::{self, FORM_MOST};
-use ring::generator::{self, Kind};
-use ring::place::Direction::{self, Clockwise, Counterclockwise};
-use ring::place::Wavelength;
-use ring::refusal::Refusal;
-use ring::report::{link_question, load, loads_afresh, loads_in_one_walk, NO_CIRCUIT};
-use ring::table::{Table, NODES_LEAST, NODES_MOST, RING_PORTS_MOST};
+use second_controller::form::{self, FORM_MOST};
+use second_controller::generator::{self, Kind};
+use second_controller::place::Direction::{self, Clockwise, Counterclockwise};
+use second_controller::place::Wavelength;
+use second_controller::refusal::Refusal;
+use second_controller::report::{link_question, load, loads_afresh, loads_in_one_walk, NO_CIRCUIT};
+use second_controller::table::{Table, NODES_LEAST, NODES_MOST, RING_PORTS_MOST};
 
 fn form_of(table: &Table) -> Vec<u8> {
     let mut buffer = vec![0; FORM_MOST];

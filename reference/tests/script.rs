@@ -6,7 +6,7 @@ mod example;
 
 use std::io::BufReader;
 
-use ring::script::{run, Desk};
+use second_controller::script::{run, Desk};
 
 fn answer(script: &[u8]) -> String {
     let outputs = [Desk::new(), Desk::checking_rules()].map(|mut desk| {

@@ -6,13 +6,13 @@ use std::cmp::Ordering;
 use std::collections::BTreeMap;
 
 use common::{circuit, open, plan_tables, put, ring, ring_of_01, ring_with_return, standing};
-use ring::circuit::{can_share, Circuit};
-use ring::generator::Kind;
-use ring::opening::Opening;
-use ring::place::Direction::{self, Clockwise, Counterclockwise};
-use ring::place::Place;
-use ring::random::Random;
-use ring::table::{Channel, Table, NODES_LEAST, NODES_MOST};
+use second_controller::circuit::{can_share, Circuit};
+use second_controller::generator::Kind;
+use second_controller::opening::Opening;
+use second_controller::place::Direction::{self, Clockwise, Counterclockwise};
+use second_controller::place::Place;
+use second_controller::random::Random;
+use second_controller::table::{Channel, Table, NODES_LEAST, NODES_MOST};
 
 /// The place of a circuit between the nodes, which is opened without a move.
 fn place(table: &Table, source: u8, destination: u8) -> u8 {

@@ -7,16 +7,16 @@ use std::sync::LazyLock;
 use common::{
     check_moves, circuit, circuits_by_number, plan_tables, put, record, ring, standing, UNWRITTEN,
 };
-use ring::circuit::can_share;
-use ring::form;
-use ring::generator::{self, Kind};
-use ring::opening::Move;
-use ring::place::Direction::{self, Clockwise, Counterclockwise};
-use ring::place::Place;
-use ring::random::Random;
-use ring::refusal::Refusal;
-use ring::table::{Channel, Lightpath, Table, NODES_LEAST, NODES_MOST};
-use ring::tidying::Tidying;
+use second_controller::circuit::can_share;
+use second_controller::form;
+use second_controller::generator::{self, Kind};
+use second_controller::opening::Move;
+use second_controller::place::Direction::{self, Clockwise, Counterclockwise};
+use second_controller::place::Place;
+use second_controller::random::Random;
+use second_controller::refusal::Refusal;
+use second_controller::table::{Channel, Lightpath, Table, NODES_LEAST, NODES_MOST};
+use second_controller::tidying::Tidying;
 
 /// Tidies with a list longer than it needs to be: the rounds and the moves.
 fn tidy(table: &mut Table) -> (usize, Vec<Move>) {

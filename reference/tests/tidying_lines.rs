@@ -5,12 +5,12 @@ mod common;
 use std::process::Output;
 
 use common::{answer, answer_on, circuit, coverage_of, read_line, ring, run_on_form, standing};
-use ring::circuit::Circuit;
-use ring::coverage::{Event, TidyingEvent, TIDYING_EVENTS};
-use ring::form;
-use ring::generator;
-use ring::place::Direction::{Clockwise, Counterclockwise};
-use ring::table::Table;
+use second_controller::circuit::Circuit;
+use second_controller::coverage::{Event, TidyingEvent, TIDYING_EVENTS};
+use second_controller::form;
+use second_controller::generator;
+use second_controller::place::Direction::{Clockwise, Counterclockwise};
+use second_controller::table::Table;
 use TidyingEvent::*;
 
 /// 1→3 and 3→4 stand counterclockwise, and fit clockwise.

@@ -4,11 +4,11 @@ use std::io::{self, Write};
 use std::path::PathBuf;
 use std::process::ExitCode;
 
-use ring::arguments::Arguments;
-use ring::comparison::{run_program, Expected};
-use ring::coverage::Coverage;
-use ring::generator::{self, Kind};
-use ring::program::Program;
+use second_controller::arguments::Arguments;
+use second_controller::comparison::{run_program, Expected};
+use second_controller::coverage::Coverage;
+use second_controller::generator::{self, Kind};
+use second_controller::program::Program;
 
 const USAGE: &str =
     "usage: compare --program PATH --seeds A..B --lines N [--kind KIND] [--plan] [--complete]

@@ -3,11 +3,11 @@
 use std::io::{self, Write};
 use std::process::ExitCode;
 
-use ring::arguments::Arguments;
-use ring::comparison::Expected;
-use ring::generator::{self, Kind};
-use ring::program::Program;
-use ring::table::{NODES_LEAST, NODES_MOST, RING_PORTS_MOST};
+use second_controller::arguments::Arguments;
+use second_controller::comparison::Expected;
+use second_controller::generator::{self, Kind};
+use second_controller::program::Program;
+use second_controller::table::{NODES_LEAST, NODES_MOST, RING_PORTS_MOST};
 
 const USAGE: &str = "usage: generate --seed S --lines N [--kind KIND] [--plan] [--stats]
   --kind      small, large, mixed (if not given), light or forms

@@ -5,9 +5,9 @@ use std::hint::black_box;
 use std::io::{self, Write};
 use std::process::ExitCode;
 
-use ring::lookup::list_circuits_from;
-use ring::table::Lightpath;
-use ring::timed::{read_table, run_counted};
+use second_controller::lookup::list_circuits_from;
+use second_controller::table::Lightpath;
+use second_controller::timed::{read_table, run_counted};
 
 const USAGE: &str = "usage: reference-from COUNT < form > checksum
   look up the circuits from each node, 1 to N in turn, COUNT times over, and write a checksum of all

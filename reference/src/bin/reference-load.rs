@@ -5,10 +5,10 @@ use std::hint::black_box;
 use std::io::{self, Write};
 use std::process::ExitCode;
 
-use ring::arguments::Arguments;
-use ring::report::{loads_afresh, loads_in_one_walk};
-use ring::table::Table;
-use ring::timed::read_table;
+use second_controller::arguments::Arguments;
+use second_controller::report::{loads_afresh, loads_in_one_walk};
+use second_controller::table::Table;
+use second_controller::timed::read_table;
 
 const USAGE: &str = "usage: reference-load --walk|--afresh COUNT < form > report
   --walk     make the report COUNT times by a running load from link to link

@@ -3,7 +3,7 @@
 use std::io::{self, BufReader, BufWriter};
 use std::process::ExitCode;
 
-use ring::plan::{self, Planner};
+use second_controller::plan::{self, Planner};
 
 const USAGE: &str = "usage: reference-plan [--check] < script
   --check   check the ring rules at every opening, closing and tidying";

@@ -4,11 +4,11 @@ use std::hint::black_box;
 use std::io::{self, Write};
 use std::process::ExitCode;
 
-use ring::form::{self, FORM_MOST};
-use ring::opening::Move;
-use ring::table::Table;
-use ring::tidying::{Tidying, RECORDS_LEAST};
-use ring::timed::{read_table, run_counted};
+use second_controller::form::{self, FORM_MOST};
+use second_controller::opening::Move;
+use second_controller::table::Table;
+use second_controller::tidying::{Tidying, RECORDS_LEAST};
+use second_controller::timed::{read_table, run_counted};
 
 const USAGE: &str = "usage: reference-tidy COUNT < form > tidied
   tidy the form's table COUNT times, each time anew, and write what the last time gave: a byte each

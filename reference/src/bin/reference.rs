@@ -3,7 +3,7 @@
 use std::io::{self, BufReader, BufWriter};
 use std::process::ExitCode;
 
-use ring::script::{self, Desk};
+use second_controller::script::{self, Desk};
 
 const USAGE: &str = "usage: reference [--check] < script
   --check   check the ring rules at every opening and closing";

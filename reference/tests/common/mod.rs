@@ -4,16 +4,16 @@
 use std::io::Write;
 use std::process::{Command, Output, Stdio};
 
-use ring::circuit::Circuit;
-use ring::coverage::Coverage;
-use ring::form::{write, FORM_MOST};
-use ring::generator::{Generator, Kind};
-use ring::opening::{Move, Opening};
-use ring::place::Place;
-use ring::plan::{hexadecimal, run, Planner};
-use ring::program::Program;
-use ring::refusal::Refusal;
-use ring::table::{Channel, Table};
+use second_controller::circuit::Circuit;
+use second_controller::coverage::Coverage;
+use second_controller::form::{write, FORM_MOST};
+use second_controller::generator::{Generator, Kind};
+use second_controller::opening::{Move, Opening};
+use second_controller::place::Place;
+use second_controller::plan::{hexadecimal, run, Planner};
+use second_controller::program::Program;
+use second_controller::refusal::Refusal;
+use second_controller::table::{Channel, Table};
 
 pub fn circuit(number: u32, source: u8, destination: u8) -> Circuit {
     Circuit { number, source, destination, remark: 0, account: 0 }
