@@ -1,5 +1,7 @@
 //! Directions, wavelengths and directed wavelength places.
 
+use std::fmt;
+
 #[derive(Clone, Copy, PartialEq, Eq, PartialOrd, Ord, Debug)]
 pub enum Direction {
     Clockwise,
@@ -12,6 +14,15 @@ impl Direction {
             Direction::Clockwise => Direction::Counterclockwise,
             Direction::Counterclockwise => Direction::Clockwise,
         }
+    }
+}
+
+impl fmt::Display for Direction {
+    fn fmt(&self, f: &mut fmt::Formatter) -> fmt::Result {
+        f.write_str(match self {
+            Direction::Clockwise => "clockwise",
+            Direction::Counterclockwise => "counterclockwise",
+        })
     }
 }
 

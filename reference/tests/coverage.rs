@@ -8,9 +8,7 @@ use common::{
     ring_where_second_fits, ring_with_return, standing,
 };
 use second_controller::circuit::Circuit;
-use second_controller::coverage::{
-    grid_events, Coverage, Event, GridEvent, LineFault, Off, Way, PLAN_EVENTS, SCRIPT_EVENTS,
-};
+use second_controller::coverage::{Coverage, Event, GridEvent, LineFault, Off, Way};
 use second_controller::form::Fault;
 use second_controller::place::Direction::{Clockwise, Counterclockwise};
 use second_controller::place::Place;
@@ -29,7 +27,7 @@ fn coverage(table: &Table, new: Circuit) -> Coverage {
 fn events(table: &Table, new: Circuit) -> Vec<Event> {
     let coverage = coverage(table, new);
     let reached: Vec<Event> =
-        SCRIPT_EVENTS.into_iter().filter(|&event| coverage.count(event) > 0).collect();
+        Event::of_script().into_iter().filter(|&event| coverage.count(event) > 0).collect();
     assert!(reached.iter().all(|&event| coverage.count(event) == 1));
     reached
 }
@@ -248,7 +246,7 @@ fn load_events(table: &Table) -> Vec<Event> {
     let coverage = coverage_of(&[&read_line(table), "load"]);
     let of_reading = coverage_of(&[&read_line(table)]);
     let comes_with_load = |event: &Event| coverage.count(*event) > of_reading.count(*event);
-    let reached: Vec<Event> = PLAN_EVENTS.into_iter().filter(comes_with_load).collect();
+    let reached: Vec<Event> = Event::of_plan().into_iter().filter(comes_with_load).collect();
     assert!(reached.iter().all(|&event| coverage.count(event) == 1));
     reached
 }
@@ -293,8 +291,9 @@ fn grid_events_of(line: &str) -> Vec<GridEvent> {
         Event::Grid(its_way, event) if its_way == way => event,
         _ => panic!("{event} at {line}"),
     };
-    let reached = grid_events().into_iter().filter(|&event| coverage.count(event) > 0);
-    reached.map(of_line).collect()
+    let is_grid = |event: &Event| matches!(event, Event::Grid(..));
+    let came = |event: &Event| coverage.count(*event) > 0;
+    Event::of_plan().into_iter().filter(is_grid).filter(came).map(of_line).collect()
 }
 
 #[test]
@@ -323,25 +322,26 @@ fn frequencies_and_wavelengths_found() {
 #[test]
 fn refusals_of_frequency_plans() {
     use GridEvent::*;
-    let first = |number| [Refused(number), RefusedFirst(number)];
-    assert_eq!(grid_events_of("frequency 1 0 0"), [Refused(41)]);
-    assert_eq!(grid_events_of("frequency 1 201 0"), first(41));
-    assert_eq!(grid_events_of("frequency 1 0 64"), first(41));
-    assert_eq!(grid_events_of("frequency 125 201 63"), [Refused(42)]);
-    assert_eq!(grid_events_of("frequency 125 201 64"), first(42));
-    assert_eq!(grid_events_of("frequency 125 200 64"), [Refused(16)]);
-    assert_eq!(grid_events_of("wavelength 1 0 1931000"), [Refused(41)]);
-    assert_eq!(grid_events_of("wavelength 1 201 1931000"), first(41));
-    assert_eq!(grid_events_of("wavelength 1 0 1931001"), first(41));
-    assert_eq!(grid_events_of("wavelength 500 201 1931000"), [Refused(42)]);
-    assert_eq!(grid_events_of("wavelength 500 201 1931125"), first(42));
+    let spacing_first = [SpacingRefused, SpacingRefusedFirst];
+    let start_first = [StartRefused, StartRefusedFirst];
+    assert_eq!(grid_events_of("frequency 1 0 0"), [SpacingRefused]);
+    assert_eq!(grid_events_of("frequency 1 201 0"), spacing_first);
+    assert_eq!(grid_events_of("frequency 1 0 64"), spacing_first);
+    assert_eq!(grid_events_of("frequency 125 201 63"), [StartRefused]);
+    assert_eq!(grid_events_of("frequency 125 201 64"), start_first);
+    assert_eq!(grid_events_of("frequency 125 200 64"), [WavelengthRefused]);
+    assert_eq!(grid_events_of("wavelength 1 0 1931000"), [SpacingRefused]);
+    assert_eq!(grid_events_of("wavelength 1 201 1931000"), spacing_first);
+    assert_eq!(grid_events_of("wavelength 1 0 1931001"), spacing_first);
+    assert_eq!(grid_events_of("wavelength 500 201 1931000"), [StartRefused]);
+    assert_eq!(grid_events_of("wavelength 500 201 1931125"), start_first);
     let off = |frequency: u32| grid_events_of(&format!("wavelength 500 0 {frequency}"));
-    assert_eq!(off(1_930_500), [RefusedOffPlan(Off::Below)]);
-    assert_eq!(off(1_930_501), [RefusedOffPlan(Off::LessThanSpacingBelow)]);
-    assert_eq!(off(1_930_999), [RefusedOffPlan(Off::LessThanSpacingBelow)]);
-    assert_eq!(off(1_931_001), [RefusedOffPlan(Off::Between)]);
-    assert_eq!(off(1_962_499), [RefusedOffPlan(Off::Between)]);
-    assert_eq!(off(1_962_501), [RefusedOffPlan(Off::Above)]);
+    assert_eq!(off(1_930_500), [FrequencyRefused(Off::Below)]);
+    assert_eq!(off(1_930_501), [FrequencyRefused(Off::LessThanSpacingBelow)]);
+    assert_eq!(off(1_930_999), [FrequencyRefused(Off::LessThanSpacingBelow)]);
+    assert_eq!(off(1_931_001), [FrequencyRefused(Off::Between)]);
+    assert_eq!(off(1_962_499), [FrequencyRefused(Off::Between)]);
+    assert_eq!(off(1_962_501), [FrequencyRefused(Off::Above)]);
 }
 
 #[test]

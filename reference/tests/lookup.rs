@@ -10,7 +10,7 @@ use common::{
     standing,
 };
 use second_controller::circuit::Circuit;
-use second_controller::coverage::{Event, LookupEvent, LOOKUP_EVENTS};
+use second_controller::coverage::{Event, LookupEvent};
 use second_controller::form;
 use second_controller::generator::{self, Kind};
 use second_controller::lookup::circuits_from;
@@ -235,7 +235,8 @@ fn events(lines: &[&str]) -> Vec<LookupEvent> {
     let (_, before) = lines.split_last().unwrap();
     let [coverage, before] = [lines, before].map(coverage_of);
     let came = |event: Event| coverage.count(event) - before.count(event);
-    let reached = LOOKUP_EVENTS.into_iter().filter(|&event| came(event) > 0);
+    let reached =
+        LookupEvent::all().into_iter().map(Event::Lookup).filter(|&event| came(event) > 0);
     let of_lookup = |event: Event| match event {
         Event::Lookup(lookup) if came(event) == 1 => lookup,
         _ => panic!("{event} came more than once"),

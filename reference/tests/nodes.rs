@@ -4,7 +4,7 @@
 mod common;
 
 use common::{answer, answer_on, circuit, coverage_of, plan_tables, ring_of_01, standing};
-use second_controller::coverage::{Event, LookupEvent, NodesEvent, NODES_EVENTS, RECEIVED_EVENTS};
+use second_controller::coverage::{Event, LookupEvent, NodesEvent};
 use second_controller::generator::Kind;
 use second_controller::lookup::{circuits_from, circuits_to, nodes};
 use second_controller::refusal::Refusal;
@@ -100,11 +100,11 @@ fn of_all_nodes() {
 }
 
 /// The events of these that the last of the lines reached.
-fn reached(events: &[Event], lines: &[&str]) -> Vec<Event> {
+fn reached(events: impl Iterator<Item = Event>, lines: &[&str]) -> Vec<Event> {
     let (_, before) = lines.split_last().unwrap();
     let [coverage, before] = [lines, before].map(coverage_of);
     let came = |event: &Event| coverage.count(*event) > before.count(*event);
-    events.iter().copied().filter(came).collect()
+    events.filter(came).collect()
 }
 
 #[test]
@@ -115,7 +115,10 @@ fn what_lookups_count_as() {
             Event::Received(sort) => sort,
             _ => panic!("{event} is no lookup of the circuits to a node"),
         };
-        reached(&RECEIVED_EVENTS, lines).into_iter().map(sort).collect()
+        reached(LookupEvent::all().into_iter().map(Event::Received), lines)
+            .into_iter()
+            .map(sort)
+            .collect()
     };
     let ring = "ring 5 2 1 1 1 1";
     assert_eq!(of(&[ring, "to 1"]), [Found, NoCircuit]);
@@ -140,7 +143,10 @@ fn what_lists_of_nodes_count_as() {
             Event::Nodes(sort) => sort,
             _ => panic!("{event} is no list of nodes"),
         };
-        reached(&NODES_EVENTS, lines).into_iter().map(sort).collect()
+        reached(NodesEvent::all().into_iter().map(Event::Nodes), lines)
+            .into_iter()
+            .map(sort)
+            .collect()
     };
     let ring = "ring 4 2 2 2 2";
     assert_eq!(of(&[ring, "nodes"]), [Listed, NoneOnRing]);

@@ -6,7 +6,7 @@ use std::process::Output;
 
 use common::{answer, answer_on, circuit, coverage_of, read_line, ring, run_on_form, standing};
 use second_controller::circuit::Circuit;
-use second_controller::coverage::{Event, TidyingEvent, TIDYING_EVENTS};
+use second_controller::coverage::{Event, TidyingEvent};
 use second_controller::form;
 use second_controller::generator;
 use second_controller::place::Direction::{Clockwise, Counterclockwise};
@@ -86,7 +86,8 @@ fn tidying_needs_a_table_and_takes_no_word() {
 /// The events of the table's tidying, each of which came once.
 fn events(table: &Table) -> Vec<TidyingEvent> {
     let coverage = coverage_of(&[&read_line(table), "tidy"]);
-    let reached = TIDYING_EVENTS.into_iter().filter(|&event| coverage.count(event) > 0);
+    let events = TidyingEvent::all().into_iter().map(Event::Tidying);
+    let reached = events.filter(|&event| coverage.count(event) > 0);
     let of_tidying = |event: Event| match event {
         Event::Tidying(tidying) if coverage.count(event) == 1 => tidying,
         _ => panic!("{event} came more than once"),

@@ -3,6 +3,7 @@
 use std::cmp::Ordering;
 use std::fmt;
 
+use super::events::events;
 use super::{Before, Coverage, Event};
 use crate::grid::{FrequencyPlan, SPACINGS, START_MOST, WAVELENGTHS};
 use crate::lines::{signed_number, words};
@@ -17,98 +18,88 @@ pub enum Way {
     Back,
 }
 
-/// What such a line can show.
-#[derive(Clone, Copy, PartialEq, Eq, PartialOrd, Ord, Debug)]
-pub enum GridEvent {
-    /// An answer on a plan of this spacing.
-    Found {
-        spacing: u32,
-    },
-    /// An answer on a plan with such a starting n.
-    StartBelowZero,
-    StartAboveZero,
-    /// Wavelength 0 where the plan starts at −200.
-    LowestPoint,
-    /// Wavelength 63 where the plan starts at 200.
-    HighestPoint,
-    /// A well-formed line whose starting n of 0 has a sign.
-    StartMinusZero,
-    /// A well-formed line before there is a table.
-    BeforeTable,
-    Refused(u8),
-    /// Refused by this number, though a fault that comes later is there too.
-    RefusedFirst(u8),
-    /// Refused by 43, by where the frequency lies.
-    RefusedOffPlan(Off),
-    LineRefused(LineFault),
+events! {
+    /// What such a line can show.
+    pub enum GridEvent(way: Way) {
+        /// What is found, and what any plan is refused for.
+        of_plan {
+            /// An answer on a plan of this spacing.
+            Found { spacing: u32 } in SPACINGS => "{way} with spacing {spacing}";
+            /// An answer on a plan with such a starting n.
+            StartBelowZero => "  of {way}: starting n below 0";
+            StartAboveZero => "  of {way}: starting n above 0";
+            /// Wavelength 0 where the plan starts at −200.
+            LowestPoint => "  of {way}: starting n -200 and wavelength 0";
+            /// Wavelength 63 where the plan starts at 200.
+            HighestPoint => "  of {way}: starting n 200 and wavelength 63";
+            /// A well-formed line whose starting n of 0 has a sign.
+            StartMinusZero => "{way} with a starting n of -0";
+            /// A well-formed line before there is a table.
+            BeforeTable => "{way} before the first table";
+            SpacingRefused => "{way} refused 41";
+            /// Refused for its spacing, though a fault that comes later is there too.
+            SpacingRefusedFirst => "  of these: with a later fault too";
+            StartRefused => "{way} refused 42";
+            /// Refused for its start, though a fault that comes later is there too.
+            StartRefusedFirst => "  of these: with a later fault too";
+        }
+
+        /// What the way from a wavelength to its frequency is refused for.
+        of_wavelength {
+            WavelengthRefused => "{way} refused 16";
+        }
+
+        /// What the way back is refused for: where the frequency lies.
+        of_frequency {
+            FrequencyRefused(off: Off) in Off::all() => "{way} refused 43: {}", off.words();
+        }
+
+        /// What lines that are not well formed show.
+        of_odd_line {
+            LineRefused(fault: LineFault) in LineFault::all() =>
+                "line refused: {way} {}", fault.words();
+        }
+    }
 }
 
-/// Where a frequency lies that is none of the plan's.
-#[derive(Clone, Copy, PartialEq, Eq, PartialOrd, Ord, Debug)]
-pub enum Off {
-    Below,
-    LessThanSpacingBelow,
-    Between,
-    Above,
+events! {
+    /// Where a frequency lies that is none of the plan's.
+    pub enum Off {
+        /// Every one, in the order of the report.
+        all {
+            Below => "below the plan by a spacing or more";
+            LessThanSpacingBelow => "below the plan by less than a spacing";
+            Between => "between two points";
+            Above => "above the plan";
+        }
+    }
 }
 
-/// Why a line is not well formed.
-#[derive(Clone, Copy, PartialEq, Eq, PartialOrd, Ord, Debug)]
-pub enum LineFault {
-    TooFewWords,
-    TooManyWords,
-    /// The start has a sign that none may have, or is no number.
-    OddStart,
-    WideStart,
-    /// Another word has a sign or is no number.
-    OddNumber,
-    WideNumber,
+events! {
+    /// Why a line is not well formed.
+    pub enum LineFault {
+        /// Every one, in the order of the report.
+        all {
+            TooFewWords => "with a word too few";
+            TooManyWords => "with a word too many";
+            /// The start has a sign that none may have, or is no number.
+            OddStart => "whose start has an odd sign or is no number";
+            WideStart => "whose start is too wide";
+            /// Another word has a sign or is no number.
+            OddNumber => "with another number that has a sign or is none";
+            WideNumber => "with another number too wide";
+        }
+    }
 }
 
-/// What is found, there and back.
-const FINDINGS: [GridEvent; 10] = [
-    Found { spacing: 125 },
-    Found { spacing: 250 },
-    Found { spacing: 500 },
-    Found { spacing: 1000 },
-    StartBelowZero,
-    StartAboveZero,
-    LowestPoint,
-    HighestPoint,
-    StartMinusZero,
-    BeforeTable,
-];
-
-/// The plan's refusals, there and back.
-const REFUSALS: [GridEvent; 4] = [Refused(41), RefusedFirst(41), Refused(42), RefusedFirst(42)];
-
-const REFUSED_LINES: [GridEvent; 6] = [
-    LineRefused(LineFault::TooFewWords),
-    LineRefused(LineFault::TooManyWords),
-    LineRefused(LineFault::OddStart),
-    LineRefused(LineFault::WideStart),
-    LineRefused(LineFault::OddNumber),
-    LineRefused(LineFault::WideNumber),
-];
-
-const REFUSALS_THERE: [GridEvent; 1] = [Refused(16)];
-const REFUSALS_BACK: [GridEvent; 4] = [
-    RefusedOffPlan(Off::Below),
-    RefusedOffPlan(Off::LessThanSpacingBelow),
-    RefusedOffPlan(Off::Between),
-    RefusedOffPlan(Off::Above),
-];
-
-/// Every event that lines on frequency plans can show.
-pub fn grid_events() -> Vec<Event> {
-    let there = events_of(Way::There, &REFUSALS_THERE);
-    let back = events_of(Way::Back, &REFUSALS_BACK);
-    [there, back].concat()
-}
-
-fn events_of(way: Way, own_refusals: &[GridEvent]) -> Vec<Event> {
-    let events = [&FINDINGS[..], &REFUSALS, own_refusals, &REFUSED_LINES].concat();
-    events.into_iter().map(|event| Event::Grid(way, event)).collect()
+/// Every event that lines on frequency plans can show, in the order of the report.
+pub(super) fn there_and_back() -> Vec<(Way, GridEvent)> {
+    let of = |way, own: Vec<GridEvent>| {
+        let events = [GridEvent::of_plan(), own, GridEvent::of_odd_line()].concat();
+        events.into_iter().map(move |event| (way, event))
+    };
+    let there = of(Way::There, GridEvent::of_wavelength());
+    there.chain(of(Way::Back, GridEvent::of_frequency())).collect()
 }
 
 impl Coverage {
@@ -139,9 +130,9 @@ fn there(plan: FrequencyPlan, wavelength: u32) -> Vec<GridEvent> {
     let is_above = wavelength as usize >= WAVELENGTHS;
     match plan.frequency(wavelength) {
         Ok(_) => found(plan, wavelength),
-        Err(Refusal::NoSpacing) => refused(Refusal::NoSpacing, !plan.has_good_start() || is_above),
-        Err(Refusal::NoStart) => refused(Refusal::NoStart, is_above),
-        Err(refusal) => refused(refusal, false),
+        Err(Refusal::NoSpacing) => spacing_refused(!plan.has_good_start() || is_above),
+        Err(Refusal::NoStart) => start_refused(is_above),
+        Err(_) => vec![WavelengthRefused],
     }
 }
 
@@ -149,13 +140,10 @@ fn back(plan: FrequencyPlan, frequency: u32) -> Vec<GridEvent> {
     match plan.wavelength(frequency) {
         Ok(wavelength) => found(plan, wavelength.0.into()),
         Err(Refusal::NoSpacing) => {
-            let has_later = !plan.has_good_start() || !is_on_a_plan(&SPACINGS, frequency);
-            refused(Refusal::NoSpacing, has_later)
+            spacing_refused(!plan.has_good_start() || !is_on_a_plan(&SPACINGS, frequency))
         }
-        Err(Refusal::NoStart) => {
-            refused(Refusal::NoStart, !is_on_a_plan(&[plan.spacing], frequency))
-        }
-        Err(_) => vec![RefusedOffPlan(off(plan, frequency))],
+        Err(Refusal::NoStart) => start_refused(!is_on_a_plan(&[plan.spacing], frequency)),
+        Err(_) => vec![FrequencyRefused(off(plan, frequency))],
     }
 }
 
@@ -177,13 +165,14 @@ fn found(plan: FrequencyPlan, wavelength: u32) -> Vec<GridEvent> {
     events
 }
 
-fn refused(refusal: Refusal, has_later_fault: bool) -> Vec<GridEvent> {
-    let number = refusal.number();
-    let mut events = vec![Refused(number)];
-    if has_later_fault {
-        events.push(RefusedFirst(number));
-    }
-    events
+fn spacing_refused(has_later_fault: bool) -> Vec<GridEvent> {
+    let events = [SpacingRefused, SpacingRefusedFirst];
+    events[..1 + usize::from(has_later_fault)].to_vec()
+}
+
+fn start_refused(has_later_fault: bool) -> Vec<GridEvent> {
+    let events = [StartRefused, StartRefusedFirst];
+    events[..1 + usize::from(has_later_fault)].to_vec()
 }
 
 /// Whether some plan of one of the spacings has the frequency.
@@ -248,42 +237,5 @@ impl fmt::Display for Way {
             Way::There => "frequency",
             Way::Back => "wavelength",
         })
-    }
-}
-
-/// The event of such a line in words.
-pub(super) fn write(f: &mut fmt::Formatter, way: Way, event: GridEvent) -> fmt::Result {
-    match event {
-        Found { spacing } => write!(f, "{way} with spacing {spacing}"),
-        StartBelowZero => write!(f, "  of {way}: starting n below 0"),
-        StartAboveZero => write!(f, "  of {way}: starting n above 0"),
-        LowestPoint => write!(f, "  of {way}: starting n -200 and wavelength 0"),
-        HighestPoint => write!(f, "  of {way}: starting n 200 and wavelength 63"),
-        StartMinusZero => write!(f, "{way} with a starting n of -0"),
-        BeforeTable => write!(f, "{way} before the first table"),
-        Refused(number) => write!(f, "{way} refused {number}"),
-        RefusedFirst(_) => write!(f, "  of these: with a later fault too"),
-        RefusedOffPlan(off) => write!(f, "{way} refused 43: {}", place_of(off)),
-        LineRefused(fault) => write!(f, "line refused: {way} {}", cause_of(fault)),
-    }
-}
-
-fn place_of(off: Off) -> &'static str {
-    match off {
-        Off::Below => "below the plan by a spacing or more",
-        Off::LessThanSpacingBelow => "below the plan by less than a spacing",
-        Off::Between => "between two points",
-        Off::Above => "above the plan",
-    }
-}
-
-fn cause_of(fault: LineFault) -> &'static str {
-    match fault {
-        LineFault::TooFewWords => "with a word too few",
-        LineFault::TooManyWords => "with a word too many",
-        LineFault::OddStart => "whose start has an odd sign or is no number",
-        LineFault::WideStart => "whose start is too wide",
-        LineFault::OddNumber => "with another number that has a sign or is none",
-        LineFault::WideNumber => "with another number too wide",
     }
 }

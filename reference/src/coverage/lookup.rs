@@ -1,7 +1,6 @@
 //! What lookups by node and lists of all nodes reach.
 
-use std::fmt;
-
+use super::events::events;
 use super::{Coverage, Event};
 use crate::lines::words;
 use crate::lookup::NodeUse;
@@ -14,120 +13,72 @@ use NodesEvent::*;
 /// The event that a sort is, of the circuits from a node or of those to it.
 type End = fn(LookupEvent) -> Event;
 
-/// What a lookup can show, of the circuits from a node (`from`) or of those to it (`to`).
-#[derive(Clone, Copy, PartialEq, Eq, PartialOrd, Ord, Debug)]
-pub enum LookupEvent {
-    Found,
-    NoCircuit,
-    /// No circuit, though the ring has some.
-    NoCircuitOfSome,
-    OneCircuit,
-    SeveralCircuits,
-    /// The order by number is not that by place.
-    PlaceFalls,
-    /// Several circuits, as many as the node has ports.
-    EveryPort,
-    /// 64 circuits, the most that a node sends or receives.
-    MostCircuits,
-    /// Node N, with a circuit.
-    LastNode,
-    /// 64 nodes, with a circuit.
-    LargestRing,
-    /// One of the circuits is one of two at its place.
-    OneOfTwo,
-    /// One of the circuits was moved on the present table.
-    AfterMove,
-    /// A circuit of the node was closed on the present table, and there is another.
-    AfterClosing,
-    Refused(u8),
-    RefusedZero,
-    /// Refused, with node N + 1.
-    RefusedNext,
-    /// Refused, with node 255.
-    RefusedWidest,
-    /// A refused line: the first word alone.
-    NoNode,
-    /// A refused line: more than one word after the first.
-    WordAfter,
-    OddNode,
-    WideNode,
-}
-
-/// What a list of all nodes can show.
-#[derive(Clone, Copy, PartialEq, Eq, PartialOrd, Ord, Debug)]
-pub enum NodesEvent {
-    Listed,
-    /// The ring has no circuit.
-    NoneOnRing,
-    /// 64 nodes, with a circuit.
-    OfLargestRing,
-    /// A node has no port.
-    WithoutPort,
-    /// Every transmitter of a node is taken, and not every receiver.
-    SendersTaken,
-    /// Every receiver of a node is taken, and not every transmitter.
-    ReceiversTaken,
-    /// A circuit was moved or closed on the present table.
-    AfterChange,
-    /// A refused line: `nodes` with a word after it.
-    NodesWordAfter,
-}
-
-/// Every sort of lookup event.
-const SORTS: [LookupEvent; 21] = [
-    Found,
-    NoCircuit,
-    NoCircuitOfSome,
-    OneCircuit,
-    SeveralCircuits,
-    PlaceFalls,
-    EveryPort,
-    MostCircuits,
-    LastNode,
-    LargestRing,
-    OneOfTwo,
-    AfterMove,
-    AfterClosing,
-    Refused(10),
-    RefusedZero,
-    RefusedNext,
-    RefusedWidest,
-    NoNode,
-    WordAfter,
-    OddNode,
-    WideNode,
-];
-
-/// Every event that lookups of the circuits from a node can show.
-pub const LOOKUP_EVENTS: [Event; SORTS.len()] = events_of(Event::Lookup(Found));
-
-/// Every event that lookups of the circuits to a node can show.
-pub const RECEIVED_EVENTS: [Event; SORTS.len()] = events_of(Event::Received(Found));
-
-/// Every event that lists of all nodes can show.
-pub const NODES_EVENTS: [Event; 8] = [
-    Event::Nodes(Listed),
-    Event::Nodes(NoneOnRing),
-    Event::Nodes(OfLargestRing),
-    Event::Nodes(WithoutPort),
-    Event::Nodes(SendersTaken),
-    Event::Nodes(ReceiversTaken),
-    Event::Nodes(AfterChange),
-    Event::Nodes(NodesWordAfter),
-];
-
-/// The events of every sort, of those to a node or of those from it, as the given one is.
-const fn events_of(like: Event) -> [Event; SORTS.len()] {
-    let mut events = [like; SORTS.len()];
-    let mut index = 0;
-    while index < SORTS.len() {
-        events[index] = match like {
-            Event::Received(_) => Event::Received(SORTS[index]),
-            _ => Event::Lookup(SORTS[index]),
-        };
-        index += 1;
+events! {
+    /// What a lookup can show, of the circuits from a node or of those to it; the first word of the
+    /// line, `from` or `to`, tells which.
+    pub enum LookupEvent(first: &str) {
+        /// Every one, in the order of the report.
+        all {
+            Found => "{first}";
+            NoCircuit => "  of these: no circuit";
+            /// No circuit, though the ring has some.
+            NoCircuitOfSome => "  of these: no circuit, though other nodes have some";
+            OneCircuit => "  of these: one circuit";
+            SeveralCircuits => "  of these: several circuits";
+            /// The order by number is not that by place.
+            PlaceFalls => "  of these: a higher number at a lower place";
+            /// Several circuits, as many as the node has ports.
+            EveryPort => "  of these: several circuits, as many as the node has ports";
+            /// 64 circuits, the most that a node sends or receives.
+            MostCircuits => "  of these: 64 circuits";
+            /// Node N, with a circuit.
+            LastNode => "  of these: node N, with a circuit";
+            /// 64 nodes, with a circuit.
+            LargestRing => "  of these: 64 nodes, with a circuit";
+            /// One of the circuits is one of two at its place.
+            OneOfTwo => "  of these: a circuit is one of two at its place";
+            /// One of the circuits was moved on the present table.
+            AfterMove => "  of these: a circuit was moved before";
+            /// A circuit of the node was closed on the present table, and there is another.
+            AfterClosing => "  of these: with a circuit, and one of the node was closed before";
+            Refused(number: u8) in [10] => "{first} refused {number}";
+            RefusedZero => "  of these: node 0";
+            /// Refused, with node N + 1.
+            RefusedNext => "  of these: node N + 1";
+            /// Refused, with node 255.
+            RefusedWidest => "  of these: node 255";
+            /// A refused line: the first word alone.
+            NoNode => "line refused: {first} without a node";
+            /// A refused line: more than one word after the first.
+            WordAfter => "line refused: {first} with a word after the node";
+            OddNode => "line refused: {first} with a node that has a sign or is no number";
+            WideNode => "line refused: {first} with a node above 255";
+        }
     }
-    events
+}
+
+events! {
+    /// What a list of all nodes can show.
+    pub enum NodesEvent {
+        /// Every one, in the order of the report.
+        all {
+            Listed => "nodes";
+            /// The ring has no circuit.
+            NoneOnRing => "  of these: no circuit";
+            /// 64 nodes, with a circuit.
+            OfLargestRing => "  of these: 64 nodes, with a circuit";
+            /// A node has no port.
+            WithoutPort => "  of these: a node has no port";
+            /// Every transmitter of a node is taken, and not every receiver.
+            SendersTaken => "  of these: every transmitter of a node is taken, not every receiver";
+            /// Every receiver of a node is taken, and not every transmitter.
+            ReceiversTaken => "  of these: every receiver of a node is taken, not every transmitter";
+            /// A circuit was moved or closed on the present table.
+            AfterChange => "  of these: a circuit was moved or closed before";
+            /// A refused line: `nodes` with a word after it.
+            NodesWordAfter => "line refused: nodes with a word after it";
+        }
+    }
 }
 
 impl Coverage {
@@ -234,47 +185,4 @@ pub(super) fn sort_of_odd_lookup(line: &[u8]) -> Option<Event> {
         [_] => OddNode,
         _ => WordAfter,
     }))
-}
-
-/// The event in words, after the line's first word.
-pub(super) fn write(f: &mut fmt::Formatter, first: &str, event: LookupEvent) -> fmt::Result {
-    f.write_str(match event {
-        Found => return f.write_str(first),
-        NoCircuit => "  of these: no circuit",
-        NoCircuitOfSome => "  of these: no circuit, though other nodes have some",
-        OneCircuit => "  of these: one circuit",
-        SeveralCircuits => "  of these: several circuits",
-        PlaceFalls => "  of these: a higher number at a lower place",
-        EveryPort => "  of these: several circuits, as many as the node has ports",
-        MostCircuits => "  of these: 64 circuits",
-        LastNode => "  of these: node N, with a circuit",
-        LargestRing => "  of these: 64 nodes, with a circuit",
-        OneOfTwo => "  of these: a circuit is one of two at its place",
-        AfterMove => "  of these: a circuit was moved before",
-        AfterClosing => "  of these: with a circuit, and one of the node was closed before",
-        Refused(number) => return write!(f, "{first} refused {number}"),
-        RefusedZero => "  of these: node 0",
-        RefusedNext => "  of these: node N + 1",
-        RefusedWidest => "  of these: node 255",
-        NoNode => return write!(f, "line refused: {first} without a node"),
-        WordAfter => return write!(f, "line refused: {first} with a word after the node"),
-        OddNode => {
-            return write!(f, "line refused: {first} with a node that has a sign or is no number")
-        }
-        WideNode => return write!(f, "line refused: {first} with a node above 255"),
-    })
-}
-
-/// The event of a list of all nodes in words.
-pub(super) fn write_nodes(f: &mut fmt::Formatter, event: NodesEvent) -> fmt::Result {
-    f.write_str(match event {
-        Listed => "nodes",
-        NoneOnRing => "  of these: no circuit",
-        OfLargestRing => "  of these: 64 nodes, with a circuit",
-        WithoutPort => "  of these: a node has no port",
-        SendersTaken => "  of these: every transmitter of a node is taken, not every receiver",
-        ReceiversTaken => "  of these: every receiver of a node is taken, not every transmitter",
-        AfterChange => "  of these: a circuit was moved or closed before",
-        NodesWordAfter => "line refused: nodes with a word after it",
-    })
 }

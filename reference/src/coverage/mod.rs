@@ -1,6 +1,7 @@
 //! Counts of what a script reached: each step, each refusal, each sort of line.
 
 mod event;
+mod events;
 mod grid;
 mod load;
 mod lookup;
@@ -15,10 +16,10 @@ use crate::circuit::Circuit;
 use crate::program::Program;
 use crate::table::Table;
 
-pub use event::{Event, PLAN_EVENTS, SCRIPT_EVENTS};
-pub use grid::{grid_events, GridEvent, LineFault, Off, Way};
-pub use lookup::{LookupEvent, NodesEvent, LOOKUP_EVENTS, NODES_EVENTS, RECEIVED_EVENTS};
-pub use tidying::{TidyingEvent, TIDYING_EVENTS};
+pub use event::Event;
+pub use grid::{GridEvent, LineFault, Off, Way};
+pub use lookup::{LookupEvent, NodesEvent};
+pub use tidying::TidyingEvent;
 
 #[derive(Clone, PartialEq, Eq, Debug)]
 pub struct Coverage {
@@ -59,17 +60,8 @@ impl Coverage {
     /// The events that the program's scripts can show.
     fn events(&self) -> Vec<Event> {
         match self.program {
-            Program::Script => SCRIPT_EVENTS.to_vec(),
-            Program::Plan => [
-                &SCRIPT_EVENTS[..],
-                &PLAN_EVENTS,
-                &LOOKUP_EVENTS,
-                &RECEIVED_EVENTS,
-                &NODES_EVENTS,
-                &TIDYING_EVENTS,
-                &grid_events(),
-            ]
-            .concat(),
+            Program::Script => Event::of_script(),
+            Program::Plan => [Event::of_script(), Event::of_plan()].concat(),
         }
     }
 
@@ -144,4 +136,27 @@ impl Before {
 
 fn shared_places(table: &Table) -> usize {
     table.pairs().count()
+}
+
+#[cfg(test)]
+mod tests {
+    use super::*;
+    use crate::comparison::Expected;
+    use crate::generator::{script, Kind};
+
+    #[test]
+    fn what_is_counted_is_in_the_report_once() {
+        for program in [Program::Script, Program::Plan] {
+            let reported = Coverage::of(program).events();
+            let different: BTreeSet<Event> = reported.iter().copied().collect();
+            assert_eq!(different.len(), reported.len());
+            for seed in 1..=4 {
+                let coverage =
+                    Expected::of(program, &script(program, Kind::Mixed, seed, 5000)).coverage;
+                for event in coverage.counts.keys() {
+                    assert!(different.contains(event), "{event:?} is not in the report");
+                }
+            }
+        }
+    }
 }

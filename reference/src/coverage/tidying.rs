@@ -1,8 +1,7 @@
 //! What tidyings reach: their rounds are told from the records of the moves.
 
-use std::fmt;
-
-use super::event::word;
+use super::event::BOTH_WAYS;
+use super::events::events;
 use super::{Coverage, Event};
 use crate::circuit::can_share;
 use crate::lines::words;
@@ -12,69 +11,61 @@ use crate::place::Place;
 use crate::table::{Channel, Lightpath, Table, NODES_MOST};
 use TidyingEvent::*;
 
-/// What a tidying can show.
-#[derive(Clone, Copy, PartialEq, Eq, PartialOrd, Ord, Debug)]
-pub enum TidyingEvent {
-    Tidied,
-    NoRound,
-    /// No round, though two nonsharing circuits are adjacent.
-    NoRoundThoughAdjacent,
-    SeveralRounds,
-    /// 64 nodes, with a round.
-    LargestRing,
-    /// Every place below 2 × W lit before it, with a round.
-    FullRing,
-    /// A circuit with an account is moved.
-    MovedWithAccount,
-    /// A round in which only the member at the lower place stood in a fitting direction, this one.
-    LowerFits(Direction),
-    HigherFits(Direction),
-    BothFit {
-        stayed: Direction,
-        moved: Direction,
-    },
-    /// A round in which both moved to an unlit place of this direction.
-    BothMoved(Direction),
-    /// That place was lit before the first round.
-    ToFreedPlace,
-    /// A round before whose pair another was passed over, which can share in this direction only.
-    PassedOver(Direction),
-    /// A round whose pair comes before that of the round before it.
-    BeforeLast,
-    /// An opening on a table that was tidied, with a round, since it came into force.
-    OpenedAfter,
-    OpenedAfterWithMoves,
-    /// A refused line: `tidy` with a word after it.
-    WordAfter,
+events! {
+    /// What a tidying can show.
+    pub enum TidyingEvent {
+        /// Every one, in the order of the report.
+        all {
+            Tidied => "tidy";
+            NoRound => "  of these: no round";
+            /// No round, though two nonsharing circuits are adjacent.
+            NoRoundThoughAdjacent => "  of these: no round, though circuits alone are adjacent";
+            SeveralRounds => "  of these: several rounds";
+            /// 64 nodes, with a round.
+            LargestRing => "  of these: 64 nodes, with a round";
+            /// Every place below 2 × W lit before it, with a round.
+            FullRing => "  of these: every place lit, with a round";
+            /// A circuit with an account is moved.
+            MovedWithAccount => "  of these: a circuit with an account is moved";
+            /// A round in which only the member at the lower place stood in a fitting direction,
+            /// this one.
+            LowerFits(way: Direction) in BOTH_WAYS =>
+                "round: only the lower place is {way}, as it fits";
+            HigherFits(way: Direction) in BOTH_WAYS =>
+                "round: only the higher place is {way}, as it fits";
+            BothFit { stayed: Direction, moved: Direction } in [
+                (Clockwise, Clockwise),
+                (Counterclockwise, Counterclockwise),
+                (Clockwise, Counterclockwise),
+                (Counterclockwise, Clockwise),
+            ] =>
+                "round: {}", both_fit(stayed, moved);
+            /// A round in which both moved to an unlit place of this direction.
+            BothMoved(way: Direction) in BOTH_WAYS => "round: both move to an unlit place {way}";
+            /// That place was lit before the first round.
+            ToFreedPlace => "  of these: the place was lit before the first round";
+            /// A round before whose pair another was passed over, which can share in this direction
+            /// only.
+            PassedOver(way: Direction) in BOTH_WAYS =>
+                "round: a pair before it that fits {way} is passed over";
+            /// A round whose pair comes before that of the round before it.
+            BeforeLast => "round: its pair comes before that of the round before it";
+            /// An opening on a table that was tidied, with a round, since it came into force.
+            OpenedAfter => "open after a tidying with a round";
+            OpenedAfterWithMoves => "  of these: with moves";
+            /// A refused line: `tidy` with a word after it.
+            WordAfter => "line refused: tidy with a word after it";
+        }
+    }
 }
 
-/// Every event that tidyings can show.
-pub const TIDYING_EVENTS: [Event; 24] = [
-    Event::Tidying(Tidied),
-    Event::Tidying(NoRound),
-    Event::Tidying(NoRoundThoughAdjacent),
-    Event::Tidying(SeveralRounds),
-    Event::Tidying(LargestRing),
-    Event::Tidying(FullRing),
-    Event::Tidying(MovedWithAccount),
-    Event::Tidying(LowerFits(Clockwise)),
-    Event::Tidying(LowerFits(Counterclockwise)),
-    Event::Tidying(HigherFits(Clockwise)),
-    Event::Tidying(HigherFits(Counterclockwise)),
-    Event::Tidying(BothFit { stayed: Clockwise, moved: Clockwise }),
-    Event::Tidying(BothFit { stayed: Counterclockwise, moved: Counterclockwise }),
-    Event::Tidying(BothFit { stayed: Clockwise, moved: Counterclockwise }),
-    Event::Tidying(BothFit { stayed: Counterclockwise, moved: Clockwise }),
-    Event::Tidying(BothMoved(Clockwise)),
-    Event::Tidying(BothMoved(Counterclockwise)),
-    Event::Tidying(ToFreedPlace),
-    Event::Tidying(PassedOver(Clockwise)),
-    Event::Tidying(PassedOver(Counterclockwise)),
-    Event::Tidying(BeforeLast),
-    Event::Tidying(OpenedAfter),
-    Event::Tidying(OpenedAfterWithMoves),
-    Event::Tidying(WordAfter),
-];
+fn both_fit(stayed: Direction, moved: Direction) -> String {
+    if stayed == moved {
+        format!("both places are {stayed}, as it fits")
+    } else {
+        format!("a circuit and its return stood both ways, and share {stayed}")
+    }
+}
 
 impl Coverage {
     /// Counts a tidying, given the table before it.
@@ -203,42 +194,4 @@ fn alone_at(table: &Table, place: Place) -> Lightpath {
 pub(super) fn sort_of_odd_tidying(line: &[u8]) -> Option<Event> {
     let is_tidying = words(line).next() == Some(b"tidy");
     is_tidying.then_some(Event::Tidying(WordAfter))
-}
-
-/// The event in words.
-pub(super) fn write(f: &mut fmt::Formatter, event: TidyingEvent) -> fmt::Result {
-    f.write_str(match event {
-        Tidied => "tidy",
-        NoRound => "  of these: no round",
-        NoRoundThoughAdjacent => "  of these: no round, though circuits alone are adjacent",
-        SeveralRounds => "  of these: several rounds",
-        LargestRing => "  of these: 64 nodes, with a round",
-        FullRing => "  of these: every place lit, with a round",
-        MovedWithAccount => "  of these: a circuit with an account is moved",
-        LowerFits(way) => {
-            return write!(f, "round: only the lower place is {}, as it fits", word(way))
-        }
-        HigherFits(way) => {
-            return write!(f, "round: only the higher place is {}, as it fits", word(way))
-        }
-        BothFit { stayed, moved } if stayed == moved => {
-            return write!(f, "round: both places are {}, as it fits", word(stayed))
-        }
-        BothFit { stayed, .. } => {
-            return write!(
-                f,
-                "round: a circuit and its return stood both ways, and share {}",
-                word(stayed)
-            )
-        }
-        BothMoved(way) => return write!(f, "round: both move to an unlit place {}", word(way)),
-        ToFreedPlace => "  of these: the place was lit before the first round",
-        PassedOver(way) => {
-            return write!(f, "round: a pair before it that fits {} is passed over", word(way))
-        }
-        BeforeLast => "round: its pair comes before that of the round before it",
-        OpenedAfter => "open after a tidying with a round",
-        OpenedAfterWithMoves => "  of these: with moves",
-        WordAfter => "line refused: tidy with a word after it",
-    })
 }
