@@ -48,8 +48,7 @@ fn run(path: &Path, steps: Choice) -> Result<Day, Failure> {
         Failure(format!("the script {} cannot be read: {error}", path.display()))
     })?;
     let program = env::var_os("RINGPLAN").unwrap_or_else(|| PROGRAM.into());
-    let mut plan = ringplan::start(Path::new(&program))?;
-    day::run(&mut plan, &script, steps)
+    ringplan::run(Path::new(&program), |plan| day::run(plan, &script, steps))
 }
 
 /// The script's name without its folder.

@@ -2,8 +2,9 @@
 
 use std::fmt;
 use std::io::{BufRead, BufReader, Write};
+use std::os::unix::process::ExitStatusExt;
 use std::path::Path;
-use std::process::{ChildStdin, ChildStdout, Command, Stdio};
+use std::process::{Child, ChildStdin, ChildStdout, Command, Stdio};
 
 use crate::table::Table;
 
@@ -30,21 +31,59 @@ pub struct Ringplan<R, W> {
     requests: W,
 }
 
-/// Starts the program. It ends by itself when its requests end.
-pub fn start(program: &Path) -> Result<Ringplan<BufReader<ChildStdout>, ChildStdin>, Failure> {
-    let child = Command::new(program)
+/// A program that was started, asked over its pipes.
+pub type Started = Ringplan<BufReader<ChildStdout>, ChildStdin>;
+
+/// Starts the program, has it asked, and waits for its end. What it says on standard error is
+/// passed on.
+pub fn run<T>(
+    program: &Path,
+    work: impl FnOnce(&mut Started) -> Result<T, Failure>,
+) -> Result<T, Failure> {
+    let mut child = Command::new(program)
         .stdin(Stdio::piped())
         .stdout(Stdio::piped())
-        .stderr(Stdio::null())
+        .stderr(Stdio::inherit())
         .spawn()
         .map_err(|error| {
             Failure(format!("ringplan cannot be started from {}: {error}", program.display()))
         })?;
-    match (child.stdout, child.stdin) {
-        (Some(answers), Some(requests)) => Ok(Ringplan::over(BufReader::new(answers), requests)),
-        _ => Err(Failure("ringplan has no standard input or output".into())),
+    let (Some(answers), Some(requests)) = (child.stdout.take(), child.stdin.take()) else {
+        return Err(stopped(child, Failure("ringplan has no standard input or output".into())));
+    };
+    let mut plan = Ringplan::over(BufReader::new(answers), requests);
+    match work(&mut plan) {
+        Ok(made) => {
+            drop(plan);
+            finished(child).map(|()| made)
+        }
+        Err(failure) => Err(stopped(child, failure)),
     }
 }
+
+/// Waits for a program whose requests have ended, so that it ends by itself.
+fn finished(mut child: Child) -> Result<(), Failure> {
+    match child.wait() {
+        Ok(status) if status.success() => Ok(()),
+        Ok(status) => Err(Failure(format!("ringplan answered all lines, but ended with {status}"))),
+        Err(error) => Err(Failure(format!("ringplan cannot be waited for: {error}"))),
+    }
+}
+
+/// Ends a program after a failure. The status of one that has ended by itself is told too; one that
+/// has not is killed.
+fn stopped(mut child: Child, failure: Failure) -> Failure {
+    let _ = child.kill();
+    match child.wait() {
+        Ok(status) if !status.success() && status.signal() != Some(KILLED) => {
+            Failure(format!("{failure} ({status})"))
+        }
+        _ => failure,
+    }
+}
+
+/// The signal by which a program is killed here.
+const KILLED: i32 = 9;
 
 impl<R: BufRead, W: Write> Ringplan<R, W> {
     pub fn over(answers: R, requests: W) -> Self {
@@ -159,11 +198,34 @@ mod tests {
 
     #[test]
     fn a_missing_program_and_one_that_answers_nothing() {
-        let missing = start(Path::new("/no/such/ringplan")).err().unwrap().to_string();
+        let said =
+            |program| run(Path::new(program), |plan| plan.ask(b"close 7")).unwrap_err().to_string();
+        let missing = said("/no/such/ringplan");
         assert!(missing.starts_with("ringplan cannot be started from /no/such/ringplan: "));
         assert_eq!(missing.lines().count(), 1);
-        let mut silent = start(Path::new("true")).unwrap();
-        assert!(silent.ask(b"close 7").is_err());
+        let ended = "ringplan ended before it had answered `close 7`";
+        assert_eq!(said("true"), ended);
+        assert_eq!(said("false"), format!("{ended} (exit status: 1)"));
+    }
+
+    #[test]
+    fn a_program_is_waited_for() {
+        let of_thread = "/proc/thread-self/children";
+        if !Path::new(of_thread).exists() {
+            return;
+        }
+        let children = || std::fs::read_to_string(of_thread).unwrap().split_whitespace().count();
+        assert_eq!(run(Path::new("cat"), |_| Ok(children())), Ok(1));
+        assert_eq!(children(), 0);
+        let failure = run(Path::new("cat"), |_| Err::<(), _>(Failure("no page".into())));
+        assert_eq!((failure, children()), (Err(Failure("no page".into())), 0));
+    }
+
+    #[test]
+    fn a_status_is_looked_at() {
+        let asked_nothing = run(Path::new("false"), |_| Ok(()));
+        let expected = "ringplan answered all lines, but ended with exit status: 1";
+        assert_eq!(asked_nothing, Err(Failure(expected.into())));
     }
 
     #[test]

@@ -6,6 +6,9 @@ use std::process::{Command, Output, Stdio};
 
 const SCRIPT: &str = concat!(env!("CARGO_MANIFEST_DIR"), "/../examples/filling.script");
 
+/// Stands in for `ringplan`; its head tells more.
+const REFUSING: &str = concat!(env!("CARGO_MANIFEST_DIR"), "/tests/common/ringplan");
+
 fn command(ringplan: &str, arguments: &[&str]) -> Command {
     let mut command = Command::new(env!("CARGO_BIN_EXE_ringpage"));
     command.env("RINGPLAN", ringplan).args(arguments);
@@ -40,6 +43,22 @@ fn what_cannot_be_read_or_run() {
     assert_fails(&run("/no/such/ringplan", &[SCRIPT]), 1, "ringplan cannot be started");
     assert_fails(&run("true", &[SCRIPT]), 1, "ringplan ended before it had answered `ring 8");
     assert_fails(&run("yes", &[SCRIPT]), 1, "does not end");
+}
+
+#[test]
+fn what_ringplan_says_is_passed_on() {
+    let said = "ringplan: day.ring: not read: open: No such file or directory";
+    let output = command(REFUSING, &[SCRIPT]).env("SAYS", said).output().expect("ringpage");
+    assert!(output.status.success() && output.stdout.ends_with(b"</html>\n"));
+    assert_eq!(String::from_utf8_lossy(&output.stderr), format!("{said}\n"));
+}
+
+#[test]
+fn a_ringplan_that_ends_badly() {
+    let output = command(REFUSING, &[SCRIPT]).env("ENDS", "3").output().expect("ringpage");
+    assert_fails(&output, 1, "ringplan answered all lines, but ended with exit status: 3");
+    let words = "ended before it had answered `ring 8 2 1 1 1 1 1 1 1` (exit status: 1)";
+    assert_fails(&run("false", &[SCRIPT]), 1, words);
 }
 
 #[test]

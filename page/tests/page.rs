@@ -12,7 +12,7 @@ use common::xml::{parse, Element};
 use ringpage::day::{self, Choice, Day};
 use ringpage::drawing::View;
 use ringpage::picture::picture;
-use ringpage::step::Outcome;
+use ringpage::step::{Outcome, Step};
 use ringpage::words::tell;
 use ringpage::{chart, page, ring, ringplan};
 
@@ -25,8 +25,7 @@ fn program() -> PathBuf {
 }
 
 fn run(script: &[u8], steps: Choice) -> Day {
-    let mut plan = ringplan::start(&program()).expect("ringplan");
-    day::run(&mut plan, script, steps).expect("a day")
+    ringplan::run(&program(), |plan| day::run(plan, script, steps)).expect("a day")
 }
 
 fn example(name: &str) -> Vec<u8> {
@@ -89,12 +88,11 @@ fn pages_are_well_formed_and_have_every_step() {
 #[test]
 fn every_step_is_drawn_over_the_links_of_its_circuits() {
     for name in EXAMPLES {
-        let script = example(name);
-        let mut plan = ringplan::start(&program()).expect("ringplan");
-        for step in run(&script, None).steps {
-            plan.ask(step.request.as_bytes()).expect("an answer");
-            let circuits = plan.ask(b"circuits").expect("an answer");
-            let Some(view) = View::after(&step) else {
+        let steps = run(&example(name), None).steps;
+        let mut answers = circuits_after_each(&steps).into_iter();
+        for step in &steps {
+            let circuits = answers.next().expect("an answer for each step");
+            let Some(view) = View::after(step) else {
                 assert_eq!(circuits, ["line refused"]);
                 continue;
             };
@@ -109,6 +107,15 @@ fn every_step_is_drawn_over_the_links_of_its_circuits() {
             );
         }
     }
+}
+
+fn circuits_after_each(steps: &[Step]) -> Vec<Vec<String>> {
+    let ask = |plan: &mut ringplan::Started, step: &Step| {
+        plan.ask(step.request.as_bytes())?;
+        plan.ask(b"circuits")
+    };
+    ringplan::run(&program(), |plan| steps.iter().map(|step| ask(plan, step)).collect())
+        .expect("answers")
 }
 
 #[test]
