@@ -4,17 +4,21 @@ use std::ffi::OsString;
 use std::path::PathBuf;
 
 use crate::day::Choice;
+use crate::saving::Saving;
 
 pub const USAGE: &str = "\
-usage: ringpage [--steps A..B] SCRIPT > PAGE.html
-       ringpage --svg N SCRIPT > STEP.svg
+usage: ringpage [--steps A..B] [--write] SCRIPT > PAGE.html
+       ringpage --svg N [--write] SCRIPT > STEP.svg
 
 Runs each line of SCRIPT through ringplan and writes a page to standard output that
 shows every step: the request, the answer, what happened in words, and the ring drawn.
 The page is one file; it works offline, on a projector and on paper.
+Making it changes no file: a line `write @PATH` is drawn and not run, and a later
+`read @PATH` of the same PATH reads the ring that it would have saved.
 
   --steps A..B   shows the steps A to B; without it the last 200 are shown
   --svg N        writes one picture of step N instead
+  --write        runs each line `write @PATH` too, and so writes the files
   --help         prints this
 
 The program is target/bin/ringplan; the environment variable RINGPLAN names another.
@@ -25,8 +29,8 @@ written. Status 2: the command line is not understood.
 #[derive(PartialEq, Eq, Debug)]
 pub enum Order {
     Help,
-    Page { script: PathBuf, steps: Choice },
-    Svg { script: PathBuf, step: usize },
+    Page { script: PathBuf, steps: Choice, saving: Saving },
+    Svg { script: PathBuf, step: usize, saving: Saving },
 }
 
 /// What the arguments, without the program's name, ask for; or what is wrong with them.
@@ -34,12 +38,13 @@ pub fn parse(arguments: &[OsString]) -> Result<Order, String> {
     if arguments.iter().any(|argument| argument == "--help") {
         return Ok(Order::Help);
     }
-    let (mut steps, mut svg, mut script) = (None, None, None);
+    let (mut steps, mut svg, mut script, mut saving) = (None, None, None, Saving::Drawn);
     let mut rest = arguments.iter();
     while let Some(argument) = rest.next() {
         match argument.to_str() {
             Some("--steps") => steps = Some(range(value("--steps", rest.next())?)?),
             Some("--svg") => svg = Some(step(value("--svg", rest.next())?)?),
+            Some("--write") => saving = Saving::Run,
             Some(option) if option.starts_with('-') => {
                 return Err(format!("unknown option {option}"));
             }
@@ -50,8 +55,8 @@ pub fn parse(arguments: &[OsString]) -> Result<Order, String> {
     let script = script.ok_or("which script? ringpage --help tells more")?;
     match (svg, steps) {
         (Some(_), Some(_)) => Err("--svg takes one step, so --steps does not go with it".into()),
-        (Some(step), None) => Ok(Order::Svg { script, step }),
-        (None, steps) => Ok(Order::Page { script, steps }),
+        (Some(step), None) => Ok(Order::Svg { script, step, saving }),
+        (None, steps) => Ok(Order::Page { script, steps, saving }),
     }
 }
 
@@ -87,12 +92,15 @@ mod tests {
 
     #[test]
     fn orders() {
-        let script = || PathBuf::from("day");
-        assert_eq!(parsed("day"), Ok(Order::Page { script: script(), steps: None }));
-        let chosen = Ok(Order::Page { script: script(), steps: Some((2, 9)) });
-        assert_eq!(parsed("--steps 2..9 day"), chosen);
-        assert_eq!(parsed("day --steps 2..9"), chosen);
-        assert_eq!(parsed("--svg 7 day"), Ok(Order::Svg { script: script(), step: 7 }));
+        let page = |steps, saving| Ok(Order::Page { script: "day".into(), steps, saving });
+        assert_eq!(parsed("day"), page(None, Saving::Drawn));
+        assert_eq!(parsed("--steps 2..9 day"), page(Some((2, 9)), Saving::Drawn));
+        assert_eq!(parsed("day --steps 2..9"), page(Some((2, 9)), Saving::Drawn));
+        assert_eq!(parsed("--write day"), page(None, Saving::Run));
+        assert_eq!(parsed("day --steps 2..9 --write"), page(Some((2, 9)), Saving::Run));
+        let svg = |saving| Ok(Order::Svg { script: "day".into(), step: 7, saving });
+        assert_eq!(parsed("--svg 7 day"), svg(Saving::Drawn));
+        assert_eq!(parsed("--svg 7 --write day"), svg(Saving::Run));
         assert_eq!(parsed("--svg --help"), Ok(Order::Help));
     }
 
@@ -101,6 +109,7 @@ mod tests {
         for line in [
             "",
             "--page day",
+            "--writes day",
             "-x",
             "day night",
             "--steps day",

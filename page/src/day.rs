@@ -4,7 +4,8 @@ use std::io::{BufRead, Write};
 use std::rc::Rc;
 
 use crate::ringplan::{printable, Failure, Ringplan};
-use crate::step::{outcome_of, Step};
+use crate::saving::{Files, Saving};
+use crate::step::Step;
 use crate::table::Table;
 
 /// As many steps are shown, the last ones, where none are chosen.
@@ -27,16 +28,18 @@ pub fn run<R: BufRead, W: Write>(
     plan: &mut Ringplan<R, W>,
     script: &[u8],
     choice: Choice,
+    saving: Saving,
 ) -> Result<Day, Failure> {
     let lines = lines_of(script);
     let (first, last) = shown(lines.len(), choice)?;
-    for line in &lines[..first - 1] {
-        plan.ask(line)?;
+    let mut files = Files::new(saving);
+    for (index, line) in lines[..first - 1].iter().enumerate() {
+        files.ask(plan, index + 1, line)?;
     }
     let mut steps = Vec::new();
     let mut before = if first > 1 { plan.table()?.map(Rc::new) } else { None };
     for number in first..=last {
-        let step = take_step(plan, number, lines[number - 1], before)?;
+        let step = take_step(plan, &mut files, number, lines[number - 1], before)?;
         before = step.after.clone();
         steps.push(step);
     }
@@ -45,14 +48,13 @@ pub fn run<R: BufRead, W: Write>(
 
 fn take_step<R: BufRead, W: Write>(
     plan: &mut Ringplan<R, W>,
+    files: &mut Files,
     number: usize,
     line: &[u8],
     before: Option<Rc<Table>>,
 ) -> Result<Step, Failure> {
     let request = printable(line);
-    let answer = plan.ask(line)?;
-    let outcome = outcome_of(&answer)
-        .ok_or_else(|| Failure(format!("ringplan's answer to `{request}` is not understood")))?;
+    let (answer, outcome) = files.ask(plan, number, line)?;
     let after = plan.table()?.map(Rc::new);
     let answer = answer.iter().map(|line| printable(line.as_bytes())).collect();
     Ok(Step { number, request, answer, outcome, before, after })
@@ -115,7 +117,7 @@ mod tests {
         let answers =
             format!("ring 3 wavelengths 1\n{END}{empty}open 9 place 0 moves 0 looks 0\n{END}{lit}");
         let mut plan = Ringplan::over(answers.as_bytes(), Vec::new());
-        let day = run(&mut plan, b"ring 3 1 1 1\nopen 9 1 2 0 0", None).unwrap();
+        let day = run(&mut plan, b"ring 3 1 1 1\nopen 9 1 2 0 0", None, Saving::Drawn).unwrap();
         assert_eq!((day.lines, day.steps.len()), (2, 2));
         assert_eq!(day.steps[0].before, None);
         assert_eq!(day.steps[0].after, day.steps[1].before);
@@ -124,7 +126,8 @@ mod tests {
         let skipped =
             format!("ring 3 wavelengths 1\n{END}{empty}open 9 place 0 moves 0 looks 0\n{END}{lit}");
         let mut plan = Ringplan::over(skipped.as_bytes(), Vec::new());
-        let chosen = run(&mut plan, b"ring 3 1 1 1\nopen 9 1 2 0 0", Some((2, 2))).unwrap();
+        let chosen =
+            run(&mut plan, b"ring 3 1 1 1\nopen 9 1 2 0 0", Some((2, 2)), Saving::Drawn).unwrap();
         assert_eq!(chosen.steps[..], day.steps[1..]);
     }
 }

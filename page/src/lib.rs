@@ -15,6 +15,7 @@ pub mod picture;
 pub mod refusal;
 pub mod ring;
 pub mod ringplan;
+pub mod saving;
 pub mod step;
 pub mod table;
 pub mod tidying;

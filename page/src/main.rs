@@ -12,6 +12,7 @@ use ringpage::day::{self, Choice, Day};
 use ringpage::page::page;
 use ringpage::picture::picture;
 use ringpage::ringplan::{self, Failure};
+use ringpage::saving::Saving;
 
 const PROGRAM: &str = "target/bin/ringplan";
 
@@ -35,20 +36,22 @@ fn fail(sentence: &str, status: u8) -> ExitCode {
 fn make(order: Order) -> Result<String, Failure> {
     match order {
         Order::Help => Ok(USAGE.into()),
-        Order::Page { script, steps } => Ok(page(&name(&script), &run(&script, steps)?)),
-        Order::Svg { script, step } => {
-            let day = run(&script, Some((step, step)))?;
+        Order::Page { script, steps, saving } => {
+            Ok(page(&name(&script), &run(&script, steps, saving)?))
+        }
+        Order::Svg { script, step, saving } => {
+            let day = run(&script, Some((step, step)), saving)?;
             Ok(day.steps.iter().map(picture).collect())
         }
     }
 }
 
-fn run(path: &Path, steps: Choice) -> Result<Day, Failure> {
+fn run(path: &Path, steps: Choice, saving: Saving) -> Result<Day, Failure> {
     let script = fs::read(path).map_err(|error| {
         Failure(format!("the script {} cannot be read: {error}", path.display()))
     })?;
     let program = env::var_os("RINGPLAN").unwrap_or_else(|| PROGRAM.into());
-    ringplan::run(Path::new(&program), |plan| day::run(plan, &script, steps))
+    ringplan::run(Path::new(&program), |plan| day::run(plan, &script, steps, saving))
 }
 
 /// The script's name without its folder.

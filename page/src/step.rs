@@ -19,6 +19,10 @@ pub enum Outcome {
     Ring,
     /// A ring from a saved form.
     Read,
+    /// A ring from the form that the file of this line of the script would have had.
+    ReadBack {
+        line: usize,
+    },
     Opened {
         number: u32,
         moves: Vec<Move>,
@@ -38,6 +42,8 @@ pub enum Outcome {
     LineRefused,
     /// `read` or `write` of a file that cannot be had.
     Failed,
+    /// A line that saves to a file, which a page does not run.
+    NotRun,
     /// The frequency of a wavelength by a plan, in counts of 100 MHz.
     Frequency {
         count: u32,

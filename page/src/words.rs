@@ -36,16 +36,15 @@ pub fn tell(step: &Step) -> Telling {
             reasons: earlier_ring(step),
             next: None,
         }),
-        Outcome::Read => step.after.as_deref().map_or_else(Telling::default, |ring| Telling {
-            point: format!(
-                "A saved ring of {} nodes was read, with {}. {}",
-                ring.nodes(),
-                count(ring.circuits.len(), "circuit"),
-                dimensions(ring)
-            ),
-            reasons: earlier_ring(step),
-            next: None,
-        }),
+        Outcome::Read => tell_reading(step, ""),
+        Outcome::ReadBack { line } => tell_reading(
+            step,
+            &format!(" It is the ring that line {line}, which was not run, would have saved."),
+        ),
+        Outcome::NotRun => Telling::plain(
+            "This line saves the ring to a file. It was not run, since a page changes no file; \
+             ringpage --write runs it.",
+        ),
         Outcome::Closed { number } => tell_closing(step, *number),
         Outcome::Tidied { rounds, moves } => tidying::tell(step, *rounds, moves),
         Outcome::Frequency { count } => tell_answer(format!(
@@ -56,6 +55,9 @@ pub fn tell(step: &Step) -> Telling {
             "By this plan the frequency is wavelength {number}: {} on a ring that has it.",
             places(*number)
         )),
+        Outcome::Told if step.request.starts_with("write @") => {
+            Telling::plain("The ring was saved to the file, and stays as it is.")
+        }
         Outcome::Told => tell_answer(told(&step.answer[0])),
     }
 }
@@ -98,6 +100,19 @@ fn earlier_ring(step: &Step) -> Vec<String> {
         )],
         _ => Vec::new(),
     }
+}
+
+fn tell_reading(step: &Step, source: &str) -> Telling {
+    step.after.as_deref().map_or_else(Telling::default, |ring| Telling {
+        point: format!(
+            "A saved ring of {} nodes was read, with {}.{source} {}",
+            ring.nodes(),
+            count(ring.circuits.len(), "circuit"),
+            dimensions(ring)
+        ),
+        reasons: earlier_ring(step),
+        next: None,
+    })
 }
 
 fn tell_closing(step: &Step, number: u32) -> Telling {

@@ -12,6 +12,7 @@ use common::xml::{parse, Element};
 use ringpage::day::{self, Choice, Day};
 use ringpage::drawing::View;
 use ringpage::picture::picture;
+use ringpage::saving::Saving;
 use ringpage::step::{Outcome, Step};
 use ringpage::words::tell;
 use ringpage::{chart, page, ring, ringplan};
@@ -25,7 +26,11 @@ fn program() -> PathBuf {
 }
 
 fn run(script: &[u8], steps: Choice) -> Day {
-    ringplan::run(&program(), |plan| day::run(plan, script, steps)).expect("a day")
+    run_saving(script, steps, Saving::Drawn)
+}
+
+fn run_saving(script: &[u8], steps: Choice, saving: Saving) -> Day {
+    ringplan::run(&program(), |plan| day::run(plan, script, steps, saving)).expect("a day")
 }
 
 fn example(name: &str) -> Vec<u8> {
@@ -279,6 +284,78 @@ fn a_tidying_is_refused_as_a_line_without_a_ring_and_with_a_word_after_it() {
             reasons[index]
         );
     }
+}
+
+/// A folder of its own for a test, which is removed with what is in it.
+struct Folder(PathBuf);
+
+impl Folder {
+    fn new(name: &str) -> Folder {
+        let path = env::temp_dir().join(format!("ringpage-{}-{name}", std::process::id()));
+        fs::create_dir(&path).expect("a folder");
+        Folder(path)
+    }
+
+    fn names(&self) -> Vec<String> {
+        let entries = fs::read_dir(&self.0).expect("the folder");
+        entries.map(|entry| entry.unwrap().file_name().into_string().unwrap()).collect()
+    }
+}
+
+impl Drop for Folder {
+    fn drop(&mut self) {
+        let _ = fs::remove_dir_all(&self.0);
+    }
+}
+
+/// Saves a ring with one circuit, lights another ring and reads the first one back.
+fn saving_script(path: &Path) -> String {
+    let path = path.display();
+    format!("ring 5 1 1 1 1 1\nopen 11 1 5 0 0\nwrite @{path}\nring 3 1 1 1\nread @{path}\n")
+}
+
+#[test]
+fn a_page_changes_no_file() {
+    let folder = Folder::new("drawn");
+    let file = folder.0.join("old");
+    fs::write(&file, "old").expect("a file");
+    for (path, names) in [(&file, ["old"]), (&folder.0.join("new"), ["old"])] {
+        let day = run(saving_script(path).as_bytes(), None);
+        assert_eq!(folder.names(), names);
+        assert_eq!(fs::read(&file).expect("the file"), b"old");
+        let [_, opened, saved, _, read] = &day.steps[..] else { panic!("five steps") };
+        assert_eq!(
+            (&saved.outcome, &saved.answer[..]),
+            (&Outcome::NotRun, &["not run".into()][..])
+        );
+        assert_eq!(saved.after, opened.after);
+        assert_eq!(read.outcome, Outcome::ReadBack { line: 3 });
+        assert_eq!((&read.answer[0][..], &read.after), ("read 5 wavelengths 2", &opened.after));
+        assert!(tell(read).point.contains("line 3, which was not run, would have saved"));
+        let sentence = "It was not run, since a page changes no file; ringpage --write runs it.";
+        let text = page::page("saving", &day);
+        assert_good(&text);
+        assert!(text.contains(sentence) && !picture(saved).is_empty());
+        // A line that is not shown is not run either.
+        let shown = run(saving_script(path).as_bytes(), Some((5, 5)));
+        assert_eq!(
+            (&shown.steps[0].outcome, folder.names()),
+            (&read.outcome, names.map(String::from).into())
+        );
+    }
+}
+
+#[test]
+fn a_page_writes_files_where_it_is_told_to() {
+    let folder = Folder::new("run");
+    let script = saving_script(&folder.0.join("new"));
+    let day = run_saving(script.as_bytes(), None, Saving::Run);
+    assert_eq!(folder.names(), ["new"]);
+    assert_eq!(fs::read(folder.0.join("new")).expect("the file").len(), 29);
+    assert_eq!(day.steps[2].answer, ["write 29"]);
+    assert_eq!(tell(&day.steps[2]).point, "The ring was saved to the file, and stays as it is.");
+    assert_eq!(day.steps[4].outcome, Outcome::Read);
+    assert_eq!(day.steps[4].after, day.steps[1].after);
 }
 
 #[test]
