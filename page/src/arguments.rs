@@ -22,8 +22,9 @@ Making it changes no file: a line `write @PATH` is drawn and not run, and a late
   --help         prints this
 
 The program is target/bin/ringplan; the environment variable RINGPLAN names another.
-Status 1: the script cannot be read, ringplan cannot be run, or the page cannot be
-written. Status 2: the command line is not understood.
+Status 1: the script cannot be read, ringplan cannot be run, the page cannot be
+written, or the page is made and a file of the script cannot be had. Status 2: the
+command line is not understood. What ringplan says on standard error is passed on.
 ";
 
 #[derive(PartialEq, Eq, Debug)]

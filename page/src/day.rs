@@ -17,6 +17,8 @@ pub struct Day {
     pub lines: usize,
     /// The steps shown, one after the other.
     pub steps: Vec<Step>,
+    /// The lines run whose file could not be had.
+    pub failed: Vec<usize>,
 }
 
 /// The steps from the first to the last chosen, both included and counted from 1.
@@ -43,7 +45,7 @@ pub fn run<R: BufRead, W: Write>(
         before = step.after.clone();
         steps.push(step);
     }
-    Ok(Day { lines: lines.len(), steps })
+    Ok(Day { lines: lines.len(), steps, failed: files.failed })
 }
 
 fn take_step<R: BufRead, W: Write>(

@@ -21,10 +21,13 @@ pub enum Saving {
     Run,
 }
 
-/// The files that lines not run would have written.
+/// The files of a script.
 pub struct Files {
     saving: Saving,
+    /// Those that lines not run would have written.
     unwritten: BTreeMap<Vec<u8>, Unwritten>,
+    /// The lines whose file could not be had.
+    pub failed: Vec<usize>,
 }
 
 struct Unwritten {
@@ -35,7 +38,7 @@ struct Unwritten {
 
 impl Files {
     pub fn new(saving: Saving) -> Files {
-        Files { saving, unwritten: BTreeMap::new() }
+        Files { saving, unwritten: BTreeMap::new(), failed: Vec::new() }
     }
 
     /// The answer to a line of the script, by its number, and what it says.
@@ -55,6 +58,9 @@ impl Files {
         let outcome = outcome_of(&answer).ok_or_else(|| {
             Failure(format!("ringplan's answer to `{}` is not understood", printable(line)))
         })?;
+        if outcome == Outcome::Failed {
+            self.failed.push(number);
+        }
         match (kept, outcome) {
             (Some(kept), Outcome::Read) => Ok((answer, Outcome::ReadBack { line: kept.line })),
             (_, outcome) => Ok((answer, outcome)),

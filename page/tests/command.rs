@@ -1,7 +1,6 @@
 //! The command by its statuses and its one sentence on standard error.
 
 use std::fs::File;
-use std::path::Path;
 use std::process::{Command, Output, Stdio};
 
 const SCRIPT: &str = concat!(env!("CARGO_MANIFEST_DIR"), "/../examples/filling.script");
@@ -63,10 +62,19 @@ fn a_ringplan_that_ends_badly() {
 
 #[test]
 fn a_page_that_cannot_be_written() {
-    if !Path::new("/dev/full").exists() {
-        return;
+    let read_only = File::open("/dev/null").expect("a device");
+    let full = File::options().write(true).open("/dev/full");
+    for out in full.into_iter().chain([read_only]) {
+        let output = command("true", &["--help"]).stdout(out).stderr(Stdio::piped()).output();
+        assert_fails(&output.expect("ringpage"), 1, "the page cannot be written");
     }
-    let full = File::options().write(true).open("/dev/full").expect("a full device");
-    let output = command("true", &["--help"]).stdout(full).stderr(Stdio::piped()).output();
-    assert_fails(&output.expect("ringpage"), 1, "the page cannot be written");
+}
+
+#[test]
+fn a_file_that_fails_is_told_after_the_page() {
+    let output = command(REFUSING, &[SCRIPT]).env("FAILS", "ring 8*").output().expect("ringpage");
+    let said = String::from_utf8_lossy(&output.stderr);
+    assert_eq!(said, "ringpage: the page is made, but the file of line 1 failed\n");
+    assert_eq!(output.status.code(), Some(1));
+    assert!(output.stdout.ends_with(b"</html>\n"));
 }

@@ -359,6 +359,13 @@ fn a_page_writes_files_where_it_is_told_to() {
 }
 
 #[test]
+fn files_that_cannot_be_had_are_counted() {
+    let script = b"ring 3 1 1 1\nread @/no/such/ring\nwrite @/no/such/ring\nload\nread @/no/such\n";
+    assert_eq!(run(script, Some((4, 5))).failed, [2, 5]);
+    assert_eq!(run_saving(script, Some((4, 4)), Saving::Run).failed, [2, 3]);
+}
+
+#[test]
 fn a_long_script_shows_its_last_200_steps_or_those_chosen() {
     let mut script = b"ring 3 1 1 1\n".to_vec();
     script.extend(b"open 7 1 2 0 0\nclose 7\n".repeat(150));
