@@ -10,10 +10,9 @@ pub enum Direction {
 impl Direction {
     /// Even places run clockwise, odd ones counterclockwise.
     pub fn of(place: u8) -> Direction {
-        if place % 2 == 0 {
-            Direction::Clockwise
-        } else {
-            Direction::Counterclockwise
+        match place % 2 {
+            0 => Direction::Clockwise,
+            _ => Direction::Counterclockwise,
         }
     }
 

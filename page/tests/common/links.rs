@@ -19,8 +19,12 @@ pub fn walk(nodes: u8, source: u8, destination: u8, place: u8) -> Vec<u8> {
     while node != destination {
         let next = node % nodes + 1;
         let last = if node == 1 { nodes } else { node - 1 };
-        links.push(if place % 2 == 0 { node } else { last });
-        node = if place % 2 == 0 { next } else { last };
+        let (link, reached) = match place % 2 {
+            0 => (node, next),
+            _ => (last, last),
+        };
+        links.push(link);
+        node = reached;
     }
     links.sort_unstable();
     links
