@@ -6,7 +6,7 @@ use std::path::Path;
 use std::process::{Child, Command, ExitStatus, Stdio};
 use std::thread;
 
-use crate::coverage::Coverage;
+use crate::coverage::{Coverage, Event};
 use crate::lines::for_each_line;
 use crate::plan::Planner;
 use crate::program::Program;
@@ -60,6 +60,20 @@ impl Expected {
         });
         all_run.expect("reading and writing in memory do not fail");
         Expected { output, coverage, lines }
+    }
+
+    /// What is wrong with what a program said on standard error: each file that fails has a line
+    /// there, and nothing else has.
+    pub fn fault_said(&self, said: &[u8]) -> Option<String> {
+        let failed =
+            self.coverage.count(Event::ReadFailed) + self.coverage.count(Event::WriteFailed);
+        let lines: Vec<&[u8]> = said.split_inclusive(|&byte| byte == b'\n').collect();
+        (lines.len() as u64 != failed).then(|| {
+            let first = lines.first().map_or(String::new(), |line| {
+                format!(", first: {}", line.strip_suffix(b"\n").unwrap_or(line).escape_ascii())
+            });
+            format!("{failed} files failed, but {} lines on standard error{first}", lines.len())
+        })
     }
 
     /// The first line that the other output answers otherwise.
@@ -122,23 +136,34 @@ fn write_answer(f: &mut fmt::Formatter, who: &str, answer: &[u8]) -> fmt::Result
     Ok(())
 }
 
-/// Runs the program on the script; its output is read no further than `most` bytes.
-pub fn run_program(
-    program: &Path,
-    script: &[u8],
-    most: usize,
-) -> io::Result<(Vec<u8>, ExitStatus)> {
-    let mut child = Command::new(program).stdin(Stdio::piped()).stdout(Stdio::piped()).spawn()?;
+/// What a program printed, said on standard error and ended with.
+pub struct Run {
+    pub output: Vec<u8>,
+    pub said: Vec<u8>,
+    pub status: ExitStatus,
+}
+
+/// Runs the program on the script; what it prints and what it says are read no further than `most`
+/// bytes each.
+pub fn run_program(program: &Path, script: &[u8], most: usize) -> io::Result<Run> {
+    let mut command = Command::new(program);
+    command.stdin(Stdio::piped()).stdout(Stdio::piped()).stderr(Stdio::piped());
+    let mut child = command.spawn()?;
     let mut input = child.stdin.take().expect("the child's input is piped");
-    let output = thread::scope(|scope| {
-        // A thread of its own, as the program may answer before it has read all.
+    let errors = child.stderr.take().expect("the child's standard error is piped");
+    // Threads of their own, as the program may answer before it has read all, and say much.
+    let (output, said) = thread::scope(|scope| {
         scope.spawn(move || {
             // A program that stops reading shows in its output.
             let _ = input.write_all(script);
         });
-        read_output(&mut child, most)
-    })?;
-    Ok((output, child.wait()?))
+        let said = scope.spawn(move || {
+            let mut said = Vec::new();
+            errors.take(most as u64).read_to_end(&mut said).map(|_| said)
+        });
+        (read_output(&mut child, most), said.join().expect("reading does not panic"))
+    });
+    Ok(Run { output: output?, said: said?, status: child.wait()? })
 }
 
 fn read_output(child: &mut Child, most: usize) -> io::Result<Vec<u8>> {
@@ -197,5 +222,28 @@ mod tests {
         assert_eq!((found.line_number, &found.line[..]), (3, &b"circuits"[..]));
         assert_eq!(found.reference, list.as_bytes());
         assert_eq!(found.program, list.replace("place 0", "place 1").as_bytes());
+    }
+
+    #[test]
+    fn each_file_that_fails_has_a_line_on_standard_error() {
+        let expected = Expected::of(Program::Plan, b"read @\nring 3 1 1 1\nwrite @\nload\n");
+        assert_eq!(
+            expected.output,
+            b"read failed\nring 3 wavelengths 1\nwrite failed\nload 0 0 0 0 0 0\n"
+        );
+        assert_eq!(expected.fault_said(b"one\ntwo\n"), None);
+        let fault = expected.fault_said(b"one\n").unwrap();
+        assert_eq!(fault, "2 files failed, but 1 lines on standard error, first: one");
+        assert!(expected.fault_said(b"").is_some() && expected.fault_said(b"1\n2\n3").is_some());
+        assert_eq!(Expected::of(Program::Script, SCRIPT).fault_said(b""), None);
+    }
+
+    #[test]
+    fn what_a_program_prints_and_says_is_kept_apart() {
+        let run = run_program(Path::new("cat"), SCRIPT, 100).unwrap();
+        assert_eq!((&run.output[..], &run.said[..]), (SCRIPT, &b""[..]));
+        let run = run_program(Path::new("/bin/sh"), b"echo 1; echo 2 >&2; exit 3\n", 100).unwrap();
+        assert_eq!((&run.output[..], &run.said[..]), (&b"1\n"[..], &b"2\n"[..]));
+        assert_eq!(run.status.code(), Some(3));
     }
 }

@@ -83,9 +83,10 @@ impl Task {
     fn compare(&self, seed: u64, script: &[u8], expected: &Expected) -> Result<(), String> {
         let program = self.path.display();
         let most = expected.output.len() + OUTPUT_TOO_MUCH;
-        let (output, status) = run_program(&self.path, script, most)
+        let run = run_program(&self.path, script, most)
             .map_err(|error| format!("{program} could not be run: {error}"))?;
-        if let Some(difference) = expected.first_difference(&output) {
+        let status = run.status;
+        if let Some(difference) = expected.first_difference(&run.output) {
             let (kind, lines) = (&self.kind_name, difference.line_number);
             let plan = if self.program == Program::Plan { " --plan" } else { "" };
             return Err(format!(
@@ -98,6 +99,9 @@ impl Task {
             return Err(format!(
                 "seed {seed}: all answers equal, but {program} ended with {status}"
             ));
+        }
+        if let Some(fault) = expected.fault_said(&run.said) {
+            return Err(format!("seed {seed}: all answers equal by {program}; {fault}"));
         }
         Ok(())
     }
