@@ -91,7 +91,7 @@ fn ended(path: &[u8]) -> [u8; PATH_MAX]
     ended
 }
 
-// Looks a file up, through links. A name that is cut short, since it is too long or holds a 0, is another one's: who opens it is told so.
+// Looks a file up, through links. A name ends at its first 0, or where it is too long; who opens such a file is refused.
 pub fn look_up(path: &[u8]) -> About {
     let told = ask(&ended(path), blank());
     let found = told.status == 0;

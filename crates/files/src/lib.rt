@@ -50,6 +50,10 @@ fn read_from(file: i32, out: &mut [u8]) -> FileRead
 
 // Opens a regular file to read it. What is none is not opened: a pipe would be waited for.
 fn open_regular(path: &[u8]) -> i32 {
+    if LONGEST_NAME < path.len() {
+        failure::tell(path, b": not read: its name is too long");
+        return -1;
+    }
     let about = about::look_up(path);
     if !about.found {
         failure::say(path, b": not read: looking it up");
@@ -297,10 +301,7 @@ pub fn write_file(path: &[u8], bytes: &[u8]) -> bool
         return false;
     }
     if LONGEST_PATH < path.len() {
-        failure::tell(
-            path,
-            b": not written: naming a file beside it: File name too long",
-        );
+        failure::tell(path, b": not written: its name is too long");
         return false;
     }
     let old = about::look_up(path);

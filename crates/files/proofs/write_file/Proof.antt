@@ -1,4 +1,5 @@
 -- `files::write_file` meets its contract. Assumes nothing.
+-- Made by tools/proofs: every need is `search (needs, not-written)`.
 use borrow.Author.Needs.{needs}
 use Rattle.files.proofs.Naming.{not-written}
 use Rattle.files.proofs.write_file.Statement.{statement}

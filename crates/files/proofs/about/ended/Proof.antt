@@ -1,4 +1,5 @@
 -- `files::about::ended` meets its contract: the last byte is written last. Assumes nothing.
+-- Made by tools/proofs from its invariants and measures: every need is `search needs`.
 use Prim.Native.Nat.{_-_, _≤_}
 use mathlib.Core.Path.{_≡_}
 use lib.ListN.{length}
