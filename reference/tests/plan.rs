@@ -6,6 +6,7 @@ mod example;
 
 use std::fs;
 use std::io::BufReader;
+use std::os::unix::fs::PermissionsExt;
 use std::path::PathBuf;
 
 use second_controller::form::FORM_MOST;
@@ -428,10 +429,33 @@ fn a_writing_that_fails_leaves_everything() {
         assert_eq!(output, format!("write failed\nwrite 44 {SMALL_FORM}\n"), "{path}");
     }
     assert_eq!(folder.names(), ["form", "inner"]);
-    fs::write(format!("{file}.ringplan-new"), "taken").unwrap();
-    assert_eq!(on_small(&format!("write @{file}\n")), "write failed\n");
     assert_eq!(fs::read_to_string(&file).unwrap(), "old");
-    assert_eq!(fs::read_to_string(format!("{file}.ringplan-new")).unwrap(), "taken");
+}
+
+#[test]
+fn a_writing_keeps_the_mode_and_minds_no_leftover() {
+    let folder = Folder::new("modes");
+    let file = folder.file("form");
+    let left = format!("{file}.ringplan-1");
+    fs::write(&left, "left").unwrap();
+    assert_eq!(on_small(&format!("write @{file}\n")), "write 44\n");
+    assert_eq!(mode(&file) & !0o640, 0);
+    for kept in [0o600, 0o664] {
+        fs::set_permissions(&file, fs::Permissions::from_mode(kept)).unwrap();
+        assert_eq!(on_small(&format!("write @{file}\n")), "write 44\n");
+        assert_eq!(mode(&file), kept);
+    }
+    assert_eq!(fs::read_to_string(&left).unwrap(), "left");
+    assert_eq!(folder.names(), ["form", "form.ringplan-1"]);
+}
+
+fn mode(file: &str) -> u32 {
+    fs::metadata(file).unwrap().permissions().mode() & 0o7777
+}
+
+#[test]
+fn what_is_no_regular_file_is_neither_read_nor_replaced() {
+    assert_eq!(on_small("read @/dev/null\nwrite @/dev/null\n"), "read failed\nwrite failed\n");
 }
 
 #[test]
