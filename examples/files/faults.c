@@ -117,8 +117,6 @@ int close(int file)
     int call takes { return fails(0, #call, path, "") ? -1 : REAL(call) gives; }
 
 ON_FILE(ssize_t, read, (int file, void *bytes, size_t length), (file, bytes, length))
-ON_FILE(int, fsync, (int file), (file))
-ON_FILE(int, fdatasync, (int file), (file))
 ON_FILE(int, fstat, (int file, struct stat *found), (file, found))
 ON_FILE(int, fchmod, (int file, mode_t mode), (file, mode))
 ON_FILE(int, fchown, (int file, uid_t owner, gid_t group), (file, owner, group))
@@ -130,3 +128,7 @@ ON_NAME(rmdir, (const char *path), (path))
 ON_NAME(unlink, (const char *path), (path))
 
 int rename(const char *from, const char *to) { return fails(0, "rename", from, to) ? -1 : REAL(rename)(from, to); }
+
+/* Syncing is written down and not done: what is tried is the order of the calls and what follows from each, not the disk. */
+int fsync(int file) { return fails_on(file, "fsync") ? -1 : 0; }
+int fdatasync(int file) { return fails_on(file, "fdatasync") ? -1 : 0; }
