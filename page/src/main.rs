@@ -30,7 +30,8 @@ fn main() -> ExitCode {
 }
 
 fn fail(sentence: &str, status: u8) -> ExitCode {
-    eprintln!("ringpage: {sentence}");
+    // Where nobody hears it, the status says it.
+    let _ = writeln!(io::stderr(), "ringpage: {sentence}");
     ExitCode::from(status)
 }
 

@@ -1,10 +1,11 @@
 //! Talking to `ringplan` over its two pipes: a line in, the lines of its answer out.
 
 use std::fmt;
-use std::io::{BufRead, BufReader, Write};
+use std::io::{self, BufRead, BufReader, Write};
 use std::os::unix::process::ExitStatusExt;
 use std::path::Path;
-use std::process::{Child, ChildStdin, ChildStdout, Command, Stdio};
+use std::process::{Child, ChildStderr, ChildStdin, ChildStdout, Command, Stdio};
+use std::thread;
 
 use crate::table::Table;
 
@@ -43,21 +44,36 @@ pub fn run<T>(
     let mut child = Command::new(program)
         .stdin(Stdio::piped())
         .stdout(Stdio::piped())
-        .stderr(Stdio::inherit())
+        .stderr(Stdio::piped())
         .spawn()
         .map_err(|error| {
             Failure(format!("ringplan cannot be started from {}: {error}", program.display()))
         })?;
-    let (Some(answers), Some(requests)) = (child.stdout.take(), child.stdin.take()) else {
-        return Err(stopped(child, Failure("ringplan has no standard input or output".into())));
+    let streams = (child.stdout.take(), child.stdin.take(), child.stderr.take());
+    let (Some(answers), Some(requests), Some(said)) = streams else {
+        return Err(stopped(child, Failure("ringplan has not its three streams".into())));
     };
+    let hearing = thread::spawn(|| pass_on(said));
     let mut plan = Ringplan::over(BufReader::new(answers), requests);
-    match work(&mut plan) {
+    let done = match work(&mut plan) {
         Ok(made) => {
             drop(plan);
             finished(child).map(|()| made)
         }
         Err(failure) => Err(stopped(child, failure)),
+    };
+    // It only reads and writes, so it ends when the program has.
+    let _ = hearing.join();
+    done
+}
+
+/// Passes on what the program says as it comes, also where nobody hears it.
+fn pass_on(said: ChildStderr) {
+    let mut said = BufReader::new(said);
+    let mut line = Vec::new();
+    while said.read_until(b'\n', &mut line).is_ok_and(|length| length > 0) {
+        let _ = io::stderr().write_all(&line);
+        line.clear();
     }
 }
 
@@ -104,7 +120,7 @@ impl<R: BufRead, W: Write> Ringplan<R, W> {
         Err(Failure(format!("ringplan's answer to `{}` does not end", printable(line))))
     }
 
-    fn send(&mut self, line: &[u8]) -> std::io::Result<()> {
+    fn send(&mut self, line: &[u8]) -> io::Result<()> {
         let request = [line, b"\n", END_MARK.as_bytes(), b"\n"].concat();
         self.requests.write_all(&request)?;
         self.requests.flush()

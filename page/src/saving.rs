@@ -48,16 +48,14 @@ impl Files {
         number: usize,
         line: &[u8],
     ) -> Result<(Vec<String>, Outcome), Failure> {
-        if self.saving == Saving::Drawn && line.starts_with(b"write @") {
-            self.keep(plan, number, line)?;
-            return Ok((vec![NOT_RUN.into()], Outcome::NotRun));
+        let drawn = if self.saving == Saving::Drawn { path(b"write @", line) } else { None };
+        if let Some(path) = drawn {
+            return self.keep(plan, number, line, path);
         }
         let kept = path(b"read @", line).and_then(|path| self.unwritten.get(path));
         let read_back = kept.map(|kept| format!("read {}", kept.form));
         let answer = plan.ask(read_back.as_deref().map_or(line, str::as_bytes))?;
-        let outcome = outcome_of(&answer).ok_or_else(|| {
-            Failure(format!("ringplan's answer to `{}` is not understood", printable(line)))
-        })?;
+        let outcome = understood(line, &answer)?;
         if outcome == Outcome::Failed {
             self.failed.push(number);
         }
@@ -67,24 +65,34 @@ impl Files {
         }
     }
 
-    /// Keeps the form that the file of a line would have; before the first ring there is none.
+    /// Keeps the form that the file of a line would have. Before the first ring there is none, and
+    /// the line is refused as it would be if it were run.
     fn keep<R: BufRead, W: Write>(
         &mut self,
         plan: &mut Ringplan<R, W>,
         number: usize,
         line: &[u8],
-    ) -> Result<(), Failure> {
-        let Some(path) = path(b"write @", line) else { return Ok(()) };
+        path: &[u8],
+    ) -> Result<(Vec<String>, Outcome), Failure> {
         let answer = plan.ask(b"write")?;
         if let ["write", _, form] = answer[0].split(' ').collect::<Vec<_>>()[..] {
             let unwritten = Unwritten { line: number, form: form.into() };
             self.unwritten.insert(path.to_vec(), unwritten);
+            return Ok((vec![NOT_RUN.into()], Outcome::NotRun));
         }
-        Ok(())
+        let outcome = understood(line, &answer)?;
+        Ok((answer, outcome))
     }
 }
 
-/// The path after these first bytes of a line, where `ringplan` would take the line.
+fn understood(line: &[u8], answer: &[String]) -> Result<Outcome, Failure> {
+    outcome_of(answer).ok_or_else(|| {
+        Failure(format!("ringplan's answer to `{}` is not understood", printable(line)))
+    })
+}
+
+/// The path after these first bytes of a line, where `ringplan` would take the line; where it would
+/// not, or the path is empty, no file is touched.
 fn path<'a>(first: &[u8], line: &'a [u8]) -> Option<&'a [u8]> {
     let path = line.strip_prefix(first)?;
     (!path.is_empty() && !path.contains(&b' ') && line.len() <= LINE_MOST).then_some(path)
@@ -138,15 +146,16 @@ mod tests {
     #[test]
     fn nothing_is_kept_of_a_line_that_would_save_nothing() {
         let answers = format!("line refused\n{END}read failed\n{END}");
-        let (_, requests) = asked(Saving::Drawn, &["write @a", "read @a"], &answers);
+        let (outcomes, requests) = asked(Saving::Drawn, &["write @a", "read @a"], &answers);
+        assert_eq!(outcomes, [Outcome::LineRefused, Outcome::Failed]);
         assert_eq!(requests, ["write", "read @a"]);
         let long = "a".repeat(LINE_MOST - "write @".len() + 1);
         for path in ["", "a b", &long] {
             let lines = [&format!("write @{path}")[..], &format!("read @{path}")];
-            let (outcomes, requests) =
-                asked(Saving::Drawn, &lines, &format!("line refused\n{END}"));
-            assert_eq!(outcomes, [Outcome::NotRun, Outcome::LineRefused]);
-            assert_eq!(requests, lines[1..]);
+            let answers = format!("line refused\n{END}line refused\n{END}");
+            let (outcomes, requests) = asked(Saving::Drawn, &lines, &answers);
+            assert_eq!(outcomes, [Outcome::LineRefused, Outcome::LineRefused]);
+            assert_eq!(requests, lines);
         }
     }
 }
