@@ -10,7 +10,7 @@ use std::process;
 /// A file is read this far; no form is that long.
 pub const FILE_MOST: u64 = 4096;
 
-/// What is added to a path for the new file beside it, before the number of the process.
+/// What is added to a path for the new file beside it, before a number from that of the process on.
 const NEW_FILE: &str = ".ringplan-";
 
 /// The mode of a first file, before the user's own narrowing, and of a new one until it has the old one's.
@@ -18,7 +18,7 @@ const FIRST_MODE: u32 = 0o640;
 const NEW_MODE: u32 = 0o600;
 
 /// What of a file's mode says who may do what.
-const RIGHTS: u32 = 0o7777;
+const RIGHTS: u32 = 0o777;
 
 /// Reads a regular file; any other is not opened.
 pub fn read(path: &Path) -> io::Result<Vec<u8>> {
@@ -36,9 +36,8 @@ pub fn write(path: &Path, form: &[u8]) -> io::Result<()> {
     let old = old_file(path)?;
     let folder = File::open(folder_of(path))?;
     folder.sync_all()?;
-    let new_path = beside(path);
     let mode = if old.is_some() { NEW_MODE } else { FIRST_MODE };
-    let new_file = OpenOptions::new().write(true).create_new(true).mode(mode).open(&new_path)?;
+    let (new_path, new_file) = make_beside(path, mode)?;
     let written = fill(new_file, form, old).and_then(|()| fs::rename(&new_path, path));
     if written.is_err() {
         // The file made here goes; if it cannot, there is nothing more to be done.
@@ -76,10 +75,18 @@ fn folder_of(path: &Path) -> &Path {
     }
 }
 
-fn beside(path: &Path) -> PathBuf {
-    let mut name = OsString::from(path);
-    name.push(format!("{NEW_FILE}{}", process::id()));
-    PathBuf::from(name)
+/// Makes a new file by the first name that is free.
+fn make_beside(path: &Path, mode: u32) -> io::Result<(PathBuf, File)> {
+    for number in process::id().. {
+        let mut name = OsString::from(path);
+        name.push(format!("{NEW_FILE}{number:06}"));
+        let new_path = PathBuf::from(name);
+        match OpenOptions::new().write(true).create_new(true).mode(mode).open(&new_path) {
+            Err(error) if error.kind() == io::ErrorKind::AlreadyExists => continue,
+            made => return made.map(|file| (new_path, file)),
+        }
+    }
+    Err(io::ErrorKind::AlreadyExists.into())
 }
 
 /// Gives the new file its bytes and the old one's rights, and brings it to the disk.
