@@ -5,6 +5,7 @@
      FAULTS_AT     the number of the call that fails, counted from 1; 0 for none
      FAULTS_WITH   the error that it fails with, a number; 0 kills the program in place of the call
      FAULTS_ON     where it is set, the calls after that one fail too
+     FAULTS_CALL   every call of this name fails
      FAULTS_SHORT  where it is set, a write to a file takes one byte */
 #define _GNU_SOURCE
 #include <dlfcn.h>
@@ -15,6 +16,7 @@
 #include <stdarg.h>
 #include <stdio.h>
 #include <stdlib.h>
+#include <string.h>
 #include <sys/stat.h>
 #include <unistd.h>
 
@@ -24,6 +26,7 @@
 enum { FILES = 64, LOG_FILE = 200 };
 
 static int count, at, with, on, one_byte, logs = -1;
+static const char *every;
 static const char *const standard[] = {"input", "output", "error"};
 static char names[FILES][PATH_MAX];
 
@@ -42,6 +45,7 @@ __attribute__((constructor)) static void begin(void)
     at = number_of("FAULTS_AT");
     with = number_of("FAULTS_WITH");
     on = getenv("FAULTS_ON") != NULL;
+    every = getenv("FAULTS_CALL");
     one_byte = getenv("FAULTS_SHORT") != NULL;
 }
 
@@ -52,7 +56,8 @@ static int fails(int standard, const char *call, const char *name, const char *o
     int number = standard ? 0 : ++count;
     dprintf(logs, "%d %s %s%s%s\n", number, call, name, *other ? " " : "", other);
     errno = before;
-    if (at == 0 || (number != at && !(on && number > at)))
+    int named = every && strcmp(every, call) == 0;
+    if (!named && (at == 0 || (number != at && !(on && number > at))))
         return 0;
     if (with == 0)
         kill(getpid(), SIGKILL);

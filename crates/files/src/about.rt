@@ -8,7 +8,7 @@ use libc::types::stat;
 use libc::types::timespec;
 
 // The bits of a mode that say who may do what.
-const PERMISSIONS: u32 = 0o7777;
+const PERMISSIONS: u32 = 0o777;
 
 // The last byte of a path, which is 0.
 const LAST: usize = PATH_MAX - 1;
@@ -91,7 +91,7 @@ fn ended(path: &[u8]) -> [u8; PATH_MAX]
     ended
 }
 
-// Looks a file up, through links. A name ends at its first 0, or where it is too long; who opens such a file is refused.
+// Looks a file up, through links. A name ends at its first 0; who opens a file by a name with a 0 in it is refused.
 pub fn look_up(path: &[u8]) -> About {
     let told = ask(&ended(path), blank());
     let found = told.status == 0;

@@ -202,7 +202,8 @@ fn give_rights(name: &[u8], file: i32, like: About, mode: u32) -> bool {
         return true;
     }
     let new = about::look_up(name);
-    new.found && new.group == like.group && new.permissions == like.permissions
+    let alike = new.permissions == mode || new.permissions == like.permissions;
+    new.found && new.group == like.group && alike
 }
 
 // Fills the new file and has it reach the disk, with the rights that it is to have.
