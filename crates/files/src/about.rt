@@ -1,6 +1,9 @@
 // What the system knows of a file by its name.
 
+ghost use mathlib.Core.Path.{_≡_};
+ghost use mathlib.Core.Bool.{false};
 ghost use Rattle.libc.specs.Io.{Ended};
+ghost use Rattle.files.specs.Files.{Agrees};
 use libc::PATH_MAX;
 use libc::S_IFMT;
 use libc::S_IFREG;
@@ -23,11 +26,13 @@ pub struct About {
     pub group: u32,
 }
 
-// No file, of which nothing is known.
-pub fn none() -> About {
+// No file: that none has the name, or that nothing is known of it.
+pub fn missing(free: bool) -> About
+    ensures { λ r. ⌜ (r .found ≡ false) × (r .regular ≡ false) ⌝ }
+{
     About {
         found: false,
-        free: false,
+        free,
         regular: false,
         permissions: 0,
         owner: 0,
@@ -92,14 +97,18 @@ fn ended(path: &[u8]) -> [u8; PATH_MAX]
 }
 
 // Looks a file up, through links. A name ends at its first 0; who opens a file by a name with a 0 in it is refused.
-pub fn look_up(path: &[u8]) -> About {
+pub fn look_up(path: &[u8]) -> About
+    ensures { λ r. ⌜ Agrees r ⌝ }
+{
     let told = ask(&ended(path), blank());
-    let found = told.status == 0;
+    if told.status != 0 {
+        return missing(os::errno() == libc::ENOENT);
+    }
     let mode = told.about.st_mode;
     About {
-        found,
-        free: !found && os::errno() == libc::ENOENT,
-        regular: found && mode & S_IFMT == S_IFREG,
+        found: true,
+        free: false,
+        regular: mode & S_IFMT == S_IFREG,
         permissions: mode & PERMISSIONS,
         owner: told.about.st_uid,
         group: told.about.st_gid,

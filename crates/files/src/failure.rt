@@ -1,13 +1,12 @@
-// What failed, in a line on standard error.
+// The line that says what failed.
 
 ghost use Prim.Native.Nat.{_≤_};
 ghost use lib.ListN.{length};
 ghost use Rattle.io.specs.Counts.{Counts};
 use libc::PATH_MAX;
-use libc::STDERR_FILENO;
 
 // The room of a line: for a path of a line of the program's, which is longer than any name, and what is said of it.
-const LINE: usize = 2 * PATH_MAX + 256;
+pub const LINE_ROOM: usize = 2 * PATH_MAX + 256;
 
 // A byte as it is shown: one that could steer a terminal is a question mark.
 fn shown(byte: u8) -> u8 {
@@ -37,25 +36,10 @@ fn put_shown(out: &mut [u8], at: usize, text: &[u8]) -> usize
 }
 
 // The line: the program, the path, and what failed.
-fn put_line(out: &mut [u8], path: &[u8], what: &[u8]) -> usize
+pub fn put_line(out: &mut [u8], path: &[u8], what: &[u8]) -> usize
     ensures { λ r. ⌜ Counts r (now (out .exit)) ⌝ }
 {
     let end = put_shown(out, 0, b"ringplan: ");
     let end = put_shown(out, end, path);
     put_shown(out, end, what)
-}
-
-// Says what failed, and why by `errno`.
-pub fn say(path: &[u8], what: &[u8]) {
-    let mut line = [0u8; LINE];
-    let end = put_line(&mut line, path, what);
-    os::fail(&line[..end]);
-}
-
-// Says what is wrong where no call failed.
-pub fn tell(path: &[u8], what: &[u8]) {
-    let mut line = [0u8; LINE];
-    let end = put_line(&mut line, path, what);
-    io::write_all(STDERR_FILENO, &line[..end]);
-    io::write_all(STDERR_FILENO, b"\n");
 }

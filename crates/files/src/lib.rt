@@ -9,7 +9,9 @@ ghost use lib.ListN.{length};
 ghost use Rattle.io.specs.Counts.{Counts};
 ghost use Rattle.files.specs.Files.{Within, IsPath, longestName};
 use about::About;
+use failure::LINE_ROOM;
 use libc::PATH_MAX;
+use libc::STDERR_FILENO;
 
 // The bytes of the longest name that the system takes: with the 0 after them it has so many.
 const LONGEST_NAME: usize = PATH_MAX - 1;
@@ -27,6 +29,21 @@ const FIRST: u32 = 0o640;
 pub enum FileRead {
     Bytes(usize),
     Failed,
+}
+
+// Says on standard error what failed, and why by `errno`.
+fn say(path: &[u8], what: &[u8]) {
+    let mut line = [0u8; LINE_ROOM];
+    let end = failure::put_line(&mut line, path, what);
+    os::fail(&line[..end]);
+}
+
+// Says what is wrong where no call failed.
+fn tell(path: &[u8], what: &[u8]) {
+    let mut line = [0u8; LINE_ROOM];
+    let end = failure::put_line(&mut line, path, what);
+    io::write_all(STDERR_FILENO, &line[..end]);
+    io::write_all(STDERR_FILENO, b"\n");
 }
 
 // Reads until the lent bytes are full or the file ends.
@@ -51,21 +68,21 @@ fn read_from(file: i32, out: &mut [u8]) -> FileRead
 // Opens a regular file to read it. What is none is not opened: a pipe would be waited for.
 fn open_regular(path: &[u8]) -> i32 {
     if LONGEST_NAME < path.len() {
-        failure::tell(path, b": not read: its name is too long");
+        tell(path, b": not read: its name is too long");
         return -1;
     }
     let about = about::look_up(path);
     if !about.found {
-        failure::say(path, b": not read: looking it up");
+        say(path, b": not read: looking it up");
         return -1;
     }
     if !about.regular {
-        failure::tell(path, b": not read: it is not a regular file");
+        tell(path, b": not read: it is not a regular file");
         return -1;
     }
     let file = os::open_read(path);
     if file < 0 {
-        failure::say(path, b": not read: opening it");
+        say(path, b": not read: opening it");
     }
     file
 }
@@ -80,7 +97,7 @@ pub fn read_file(path: &[u8], out: &mut [u8]) -> FileRead
     }
     let read = read_from(file, out);
     if let FileRead::Failed = read {
-        failure::say(path, b": not read: reading it");
+        say(path, b": not read: reading it");
     }
     libc::close(file);
     read
@@ -92,16 +109,16 @@ fn may_replace(path: &[u8], old: About) -> bool {
         return true;
     }
     if !old.found {
-        failure::say(path, b": not written: looking it up");
+        say(path, b": not written: looking it up");
         return false;
     }
     if !old.regular {
-        failure::tell(path, b": not written: it is not a regular file");
+        tell(path, b": not written: it is not a regular file");
         return false;
     }
     let file = os::open_update(path);
     if file < 0 {
-        failure::say(path, b": not written: opening it");
+        say(path, b": not written: opening it");
         return false;
     }
     libc::close(file);
@@ -131,11 +148,11 @@ fn open_folder(path: &[u8]) -> i32 {
         os::open_read(&path[..end])
     };
     if folder < 0 {
-        failure::say(path, b": not written: opening its folder");
+        say(path, b": not written: opening its folder");
         return -1;
     }
     if libc::fsync(folder) != 0 {
-        failure::say(path, b": not written: syncing its folder");
+        say(path, b": not written: syncing its folder");
         libc::close(folder);
         return -1;
     }
@@ -155,20 +172,20 @@ fn name_beside(path: &[u8], name: &mut [u8]) -> usize
 fn made_empty(name: &mut [u8]) -> About {
     let file = os::create_temp(name);
     if file < 0 {
-        return about::none();
+        return about::missing(false);
     }
     libc::close(file);
     if os::unlink(name) != 0 {
-        return about::none();
+        return about::missing(false);
     }
     let file = os::create(name);
     if file < 0 {
-        return about::none();
+        return about::missing(false);
     }
     libc::close(file);
     let made = about::look_up(name);
     if os::unlink(name) != 0 {
-        return about::none();
+        return about::missing(false);
     }
     made
 }
@@ -181,7 +198,7 @@ fn first_like(path: &[u8]) -> About
     let end = name_beside(path, &mut name);
     let made = made_empty(&mut name[..end]);
     if !made.found {
-        failure::say(path, b": not written: making a file beside it");
+        say(path, b": not written: making a file beside it");
     }
     made
 }
@@ -209,15 +226,15 @@ fn give_rights(name: &[u8], file: i32, like: About, mode: u32) -> bool {
 // Fills the new file and has it reach the disk, with the rights that it is to have.
 fn fill(path: &[u8], name: &[u8], file: i32, bytes: &[u8], like: About, mode: u32) -> bool {
     if !io::write_all(file, bytes) {
-        failure::say(path, b": not written: writing the new file");
+        say(path, b": not written: writing the new file");
         return false;
     }
     if !give_rights(name, file, like, mode) {
-        failure::say(path, b": not written: keeping its group and mode");
+        say(path, b": not written: keeping its group and mode");
         return false;
     }
     if libc::fsync(file) != 0 {
-        failure::say(path, b": not written: syncing the new file");
+        say(path, b": not written: syncing the new file");
         return false;
     }
     true
@@ -228,7 +245,7 @@ fn make(path: &[u8], name: &[u8], file: i32, bytes: &[u8], like: About, mode: u3
     let filled = fill(path, name, file, bytes, like, mode);
     let closed = libc::close(file) == 0;
     if filled && !closed {
-        failure::say(path, b": not written: closing the new file");
+        say(path, b": not written: closing the new file");
     }
     filled && closed
 }
@@ -236,12 +253,12 @@ fn make(path: &[u8], name: &[u8], file: i32, bytes: &[u8], like: About, mode: u3
 // Has the new file take the name, and the name reach the disk. A new file that cannot take it is removed.
 fn give_name(path: &[u8], name: &[u8], folder: i32) -> bool {
     if os::rename(name, path) != 0 {
-        failure::say(path, b": not written: giving the new file its name");
+        say(path, b": not written: giving the new file its name");
         os::unlink(name);
         return false;
     }
     if libc::fsync(folder) != 0 {
-        failure::say(
+        say(
             path,
             b": not written: it has the new form, which a power cut may still take back: syncing its folder",
         );
@@ -262,7 +279,7 @@ fn replace_by(
 ) -> bool {
     let file = os::create_temp(name);
     if file < 0 {
-        failure::say(path, b": not written: making a file beside it");
+        say(path, b": not written: making a file beside it");
         return false;
     }
     if !make(path, name, file, bytes, like, mode) {
@@ -298,11 +315,11 @@ pub fn write_file(path: &[u8], bytes: &[u8]) -> bool
     ensures { λ r. ⌜ (r ≡ true → IsPath (now (path .entry))) ⌝ }
 {
     if path.len() == 0 {
-        failure::tell(path, b": not written: it has no name");
+        tell(path, b": not written: it has no name");
         return false;
     }
     if LONGEST_PATH < path.len() {
-        failure::tell(path, b": not written: its name is too long");
+        tell(path, b": not written: its name is too long");
         return false;
     }
     let old = about::look_up(path);
