@@ -3,9 +3,8 @@
  * wavelength, in a direction.
  *
  * The function is proved to give what docs/RULES.md, "Load and link", says, for every sequence of bytes and every three
- * numbers. `rt staticlib monitor`, at the top of the repository, proves it and writes target/staticlib/libmonitor.a, for
- * x86-64 Linux; a monitor is compiled with -I include and linked with that archive and nothing else. examples/monitor has
- * one.
+ * numbers. `tools/archive` proves it and writes target/staticlib/libmonitor.a, for x86-64 Linux; a monitor is compiled with
+ * -I include and linked with that archive and nothing else. examples/monitor has one.
  */
 #ifndef RING_MONITOR_H
 #define RING_MONITOR_H

@@ -81,13 +81,14 @@ static int named(int file, const char *name)
     return file;
 }
 
+/* Opening a file that is not to be there yet is written down as making it. */
 int open(const char *path, int flags, ...)
 {
     va_list rest;
     va_start(rest, flags);
     mode_t mode = flags & O_CREAT ? va_arg(rest, mode_t) : 0;
     va_end(rest);
-    return fails(0, "open", path, "") ? -1 : named(REAL(open)(path, flags, mode), path);
+    return fails(0, flags & O_EXCL ? "create" : "open", path, "") ? -1 : named(REAL(open)(path, flags, mode), path);
 }
 
 int mkstemp(char *name)
@@ -131,6 +132,14 @@ ON_NAME(access, (const char *path, int asked), (path, asked))
 ON_NAME(mkdir, (const char *path, mode_t mode), (path, mode))
 ON_NAME(rmdir, (const char *path), (path))
 ON_NAME(unlink, (const char *path), (path))
+
+int statx(int folder, const char *path, int flags, unsigned asked, struct statx *found)
+{
+    return fails(0, "statx", path, "") ? -1 : REAL(statx)(folder, path, flags, asked, found);
+}
+
+/* The letters of a new file's name come from here. */
+int getentropy(void *bytes, size_t length) { return fails(0, "getentropy", "", "") ? -1 : REAL(getentropy)(bytes, length); }
 
 int rename(const char *from, const char *to) { return fails(0, "rename", from, to) ? -1 : REAL(rename)(from, to); }
 

@@ -1,5 +1,7 @@
 // The room that the answer to a line of the planner's program takes at most: that of a picture.
 
+#![tactic(auto)]
+
 ghost use Rattle.std.specs.Prelude.{◌≡◌, leb};
 ghost use Rattle.answer_room.specs.Room.{line_room};
 

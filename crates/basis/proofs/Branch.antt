@@ -1,4 +1,4 @@
--- Laws for `search (needs, branch)`: a definition by tests, from the branches that the code took. Assumes nothing.
+-- Laws for `search (rules, branch)`: a definition by tests, from the branches that the code took. Assumes nothing.
 use mathlib.Core.Path.{◌≡◌, sym, ap, ◌∙◌}
 use mathlib.Core.Bool.{Bool, true, false, ◌&&◌, ◌||◌, not}
 use borrow.Author.Tests.{lt-ltb, le-ltb, le-leb, lt-leb, eq-eqb, ne_eqb, not-true, not-false}

@@ -1,4 +1,4 @@
--- A loop over the numbers below n, or over a list, that adds up as it goes. `search (needs, fold)` finds its steps. Assumes nothing.
+-- A loop over the numbers below n, or over a list, that adds up as it goes. `search (rules, fold)` finds its steps. Assumes nothing.
 use Prim.Native.Nat.{ℕ, zero, suc, ◌+◌, ◌≤◌}
 use mathlib.Core.Path.{◌≡◌, refl, sym, ◌∙◌}
 use mathlib.Core.List.{List, [], ◌∷◌}

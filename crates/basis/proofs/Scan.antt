@@ -1,5 +1,5 @@
 -- A loop over the numbers below n that stops at the first that passes a test, or fails one. Each law takes a callee's answer and the
--- branch's test as they stand in the record of a need, so that `search (needs, scan)` finds them. Assumes nothing.
+-- branch's test as they stand in the record of a need, so that `search (rules, scan)` finds them. Assumes nothing.
 use Prim.Native.Nat.{ℕ, ◌+◌, ◌≤◌, ◌<◌}
 use mathlib.Core.Path.{◌≡◌, sym, ◌∙◌}
 use mathlib.Core.Bool.{Bool, true, false, true≢false}

@@ -1,4 +1,7 @@
 // Bytes written into a lent buffer, each write from a position on.
+
+#![tactic(auto)]
+
 ghost use Rattle.std.specs.Prelude.{[], ◌∷◌};
 ghost use Rattle.buffer.specs.Put.{Put, Room};
 

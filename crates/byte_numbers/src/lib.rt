@@ -1,5 +1,7 @@
 // Numbers as bytes, written and read: up to four bytes, the highest first; and the map, two 64-bit words with the lowest byte first.
 
+#![tactic(auto)]
+
 ghost use Rattle.std.specs.Prelude.{◌≡◌, ◌+◌, ◌*◌, ◌^◌, ◌≤◌, ◌<◌, length, take, drop};
 ghost use Rattle.lit_words.specs.Lit.{word, words_of};
 ghost use Rattle.buffer.specs.Put.{Room, Put};

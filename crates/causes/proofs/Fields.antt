@@ -46,7 +46,7 @@ pub filled_end : (ks : List ℕ) (i : ℕ) (fields : List ℕ) → Filled ks i f
     → fields ≡ ks ++ replicate (64 - length ks) 0
 filled_end ks i fields h l m = let e : i ≡ length ks = omega arith in (rw e at h.are) ∙ rw (take_all (length ks) ks (omega arith))
 
--- for `search (needs, filled)`
+-- for `search (rules, filled)`
 pub ruleset filled = (filled_start, filled_next, filled_end)
 
 -- zeros behind the counts change no verdict

@@ -1,5 +1,7 @@
 // What a ring and a request are refused for: the numbers of nodes and ports, the nodes that a request names, and what is in use.
 
+#![tactic(auto)]
+
 ghost use Rattle.std.specs.Prelude.{◌≡◌, ◌&&◌, not, [], ◌∷◌, ◌++◌, ◌-◌, ◌≤◌, eqb, leb, ltb, length, replicate};
 ghost use Rattle.limits.specs.Limits.{least_nodes, most_nodes, port_fields, least_records};
 ghost use Rattle.lightpath.specs.Circuit.{on_ring};
@@ -63,13 +65,10 @@ fn off_ring(nodes: u8, circuit: Circuit) -> bool
     !lightpath::on_ring(nodes, circuit.destination)
 }
 
-// What is refused before the places are looked at: a short list, a node off the ring, one node twice.
-pub fn named_verdict(nodes: u8, circuit: Circuit, lent: usize) -> Verdict
-    ensures { result ≡ judged ((ShortList if ltb lent least_records) ∷ named_causes nodes circuit) }
+// What is refused by the nodes that a request names: one off the ring, one node twice.
+pub fn nodes_verdict(nodes: u8, circuit: Circuit) -> Verdict
+    ensures { result ≡ judged (named_causes nodes circuit) }
 {
-    if lent < LEAST_RECORDS {
-        return Verdict::Refused(Refusal::ShortList);
-    }
     if off_ring(nodes, circuit) {
         return Verdict::Refused(Refusal::OffRing);
     }
@@ -77,6 +76,16 @@ pub fn named_verdict(nodes: u8, circuit: Circuit, lent: usize) -> Verdict
         return Verdict::Refused(Refusal::SameNode);
     }
     Verdict::Granted
+}
+
+// What an opening is refused for before the places are looked at: a short list, then the nodes that it names.
+pub fn named_verdict(nodes: u8, circuit: Circuit, lent: usize) -> Verdict
+    ensures { result ≡ judged ((ShortList if ltb lent least_records) ∷ named_causes nodes circuit) }
+{
+    if lent < LEAST_RECORDS {
+        return Verdict::Refused(Refusal::ShortList);
+    }
+    nodes_verdict(nodes, circuit)
 }
 
 // What is refused by what was seen of the places: a number that is live, an end with no free port.

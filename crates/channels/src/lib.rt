@@ -1,5 +1,7 @@
 // What stands at the 128 directed wavelength places of a ring, and changes of it.
 
+#![tactic(auto)]
+
 ghost use Rattle.std.specs.Prelude.{◌≡◌};
 ghost use Rattle.channels.specs.Channels.{unlit_channels, at};
 
@@ -14,20 +16,20 @@ pub use search::{lit_of, where_is};
 pub use updates::{changed, without_circuit};
 
 // A place of the table. (A field can be an array of structs that hold an enum, and not of enums.)
-#[derive(Drop)]
+#[derive(Clone, Copy)]
 pub struct Channel {
     pub slot: Slot,
 }
 
 // A place and the content that it gets.
-#[derive(Drop)]
+#[derive(Clone, Copy)]
 pub struct Change {
     pub place: usize,
     pub slot: Slot,
 }
 
 // Three changes, one after the other. Fewer are three of which the last is said again.
-#[derive(Drop)]
+#[derive(Clone, Copy)]
 pub struct Changes {
     pub first: Change,
     pub second: Change,
@@ -35,7 +37,7 @@ pub struct Changes {
 }
 
 // A circuit and the place at which it stands.
-#[derive(Drop)]
+#[derive(Clone, Copy)]
 pub struct Standing {
     pub place: usize,
     pub circuit: Circuit,

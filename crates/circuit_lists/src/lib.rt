@@ -1,5 +1,7 @@
 // The circuits of a table gathered into an array by rising place: all of them, or the nonsharing ones below a limit.
 
+#![tactic(auto)]
+
 ghost use Rattle.std.specs.Prelude.{◌≤◌};
 ghost use Rattle.limits.specs.Limits.{place_count, circuit_room};
 ghost use Rattle.channels.specs.Channels.{circuits};
@@ -12,14 +14,14 @@ use limits::{CIRCUIT_ROOM, PLACE_COUNT};
 use slots::Slot;
 
 // Circuits by rising place, the first count of the list.
-#[derive(Drop)]
+#[derive(Clone, Copy)]
 pub struct Circuits {
     pub list: [Circuit; CIRCUIT_ROOM],
     pub count: usize,
 }
 
 // Nonsharing circuits by rising place, the first count of the list, which has room for one more than there are places.
-#[derive(Drop)]
+#[derive(Clone, Copy)]
 pub struct Candidates {
     pub list: [Standing; PLACE_COUNT + 1],
     pub count: usize,

@@ -1,6 +1,8 @@
 // Numbers in columns: a cell is a number or a dot at the right of its column, and a row has one for each link or node. Nothing here knows
 // a ring.
 
+#![tactic(auto)]
+
 ghost use Rattle.std.specs.Prelude.{◌≡◌, ◌+◌, ◌≤◌, length};
 ghost use Rattle.limits.specs.Limits.{most_nodes};
 ghost use Rattle.text.specs.Decimal.{decimal, most_digits};

@@ -1,5 +1,7 @@
 // What a line asks for beyond the script's three kinds.
 
+#![tactic(auto)]
+
 ghost use Rattle.std.specs.Prelude.{◌≡◌, ◌≤◌, length, drop};
 ghost use Rattle.words.specs.Split.{other_words};
 ghost use Rattle.words.specs.Parse.{at_end};
@@ -14,7 +16,7 @@ pub const MOST_READ: usize = 4096;
 pub const LONGEST_COMMAND: usize = 2 * MOST_READ;
 
 // What is asked of the table, which stays as it is.
-#[derive(Drop)]
+#[derive(Clone, Copy)]
 pub enum Question {
     Write,
     WriteFile(usize),
@@ -33,7 +35,7 @@ pub enum Question {
 }
 
 // What a line asks for: one of these, or what the order desk makes of it. A form or a path begins at a position of the line.
-#[derive(Drop)]
+#[derive(Clone, Copy)]
 pub enum Command {
     Read(usize),
     ReadFile(usize),

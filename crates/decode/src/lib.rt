@@ -1,5 +1,7 @@
 // Reads the saved form of a ring table, from left to right.
 
+#![tactic(auto)]
+
 mod places;
 
 ghost use Rattle.std.specs.Prelude.{◌≡◌, ◌+◌, ◌<◌};

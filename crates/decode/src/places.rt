@@ -14,7 +14,7 @@ use lit_words::Lit;
 use refusals::{Refusal, Verdict};
 
 // What all places hold and the position after the last record, or a refusal with no place lit.
-#[derive(Drop)]
+#[derive(Clone, Copy)]
 pub struct RecordsRead {
     pub verdict: Verdict,
     pub channels: [Channel; PLACE_COUNT],

@@ -11,7 +11,7 @@ use lightpath::Circuit;
 use refusals::Refusal;
 
 // A circuit and the position after it, or a refusal.
-#[derive(Drop)]
+#[derive(Clone, Copy)]
 pub enum CircuitRead {
     Got(Circuit, usize),
     Refused(Refusal),

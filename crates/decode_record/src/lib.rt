@@ -1,5 +1,7 @@
 // The record of a place in the saved form, read at a position of the form.
 
+#![tactic(auto)]
+
 mod circuit;
 mod optional;
 
@@ -13,7 +15,7 @@ use refusals::Refusal;
 use slots::Slot;
 
 // What a place holds and the position after its record, or a refusal.
-#[derive(Drop)]
+#[derive(Clone, Copy)]
 pub enum SlotRead {
     Got(Slot, usize),
     Refused(Refusal),

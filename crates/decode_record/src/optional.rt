@@ -9,7 +9,7 @@ ghost use Rattle.decode_record.specs.Found.{OptionalAt};
 use refusals::Refusal;
 
 // An optional field and the position after it, or a refusal.
-#[derive(Drop)]
+#[derive(Clone, Copy)]
 pub enum OptionalRead {
     Got(u32, usize),
     Refused(Refusal),

@@ -1,5 +1,8 @@
 // The order desk: one line of a script, run and answered as bytes. The circuits stand in keys and rests that the caller lends, as in a roster,
 // and are changed there.
+
+#![tactic(auto)]
+
 ghost use Rattle.std.specs.Prelude.{◌≡◌, ◌+◌, ◌≤◌, length};
 ghost use Rattle.buffer.specs.Put.{Printed};
 ghost use Rattle.print.specs.Answers.{line_refused};
@@ -18,14 +21,14 @@ use roster::Heading;
 pub const ANSWER_ROOM: usize = OPENING_ROOM;
 
 // What the desk has beside the keys and the rests: the heading, once a ring was accepted.
-#[derive(Drop)]
+#[derive(Clone, Copy)]
 pub struct DeskState {
     pub heading: Heading,
     pub ready: bool,
 }
 
 // The desk after a line, and the position after its answer.
-#[derive(Drop)]
+#[derive(Clone, Copy)]
 pub struct Ran {
     pub desk: DeskState,
     pub next: usize,

@@ -1,5 +1,7 @@
 // Writes the saved form of a ring table into lent bytes.
 
+#![tactic(auto)]
+
 mod places;
 
 ghost use Rattle.std.specs.Prelude.{◌≡◌, true, [], ◌∷◌, ◌≤◌, length};
@@ -17,7 +19,7 @@ use refusals::Refusal;
 use ring::RingTable;
 
 // The length of the form, or a refusal.
-#[derive(Drop)]
+#[derive(Clone, Copy)]
 pub enum Written {
     Length(usize),
     Refused(Refusal),

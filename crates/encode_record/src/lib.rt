@@ -1,5 +1,7 @@
 // The record of a place in the saved form: its length, and its bytes.
 
+#![tactic(auto)]
+
 mod circuit;
 mod optional;
 

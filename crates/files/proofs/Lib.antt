@@ -1,3 +1,2 @@
--- The laws of a file's answers, and the walk of a call that is lent a struct.
+-- The laws of a file's answers.
 pub mod Naming
-pub mod Lending

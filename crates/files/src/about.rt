@@ -1,20 +1,24 @@
 // What the system knows of a file by its name.
 
-ghost use Rattle.std.specs.Prelude.{◌≡◌, false};
-ghost use Rattle.libc.specs.Io.{Ended};
+ghost use Rattle.std.specs.Prelude.{◌≡◌, false, IfOk};
 ghost use Rattle.files.specs.Files.{Agrees};
 
-use libc::types::{stat, timespec};
-use libc::{PATH_MAX, S_IFMT, S_IFREG};
+use std::io::ErrorKind;
+use std::os::unix::fs::MetadataExt;
+use std::{fs, io, str};
 
 // The bits of a mode that say who may do what.
 const PERMISSIONS: u32 = 0o777;
 
-// The last byte of a path, which is 0.
-const LAST: usize = PATH_MAX - 1;
+// The system's number for an argument that is none: a name with a 0 in it.
+const INVALID: i32 = 22;
 
-// A file by its name: whether there is one, or that none has the name; whether it is a regular file, who may use it, and whose it is.
-#[derive(Drop)]
+// And for bytes that are no text: a name that is not UTF-8, which std does not take.
+const NO_TEXT: i32 = 84;
+
+// A file by its name: whether there is one, or that none has the name; whether it is a regular file, who may use it, and whose it is. Where it
+// is not found, why.
+#[derive(Clone, Copy)]
 pub struct About {
     pub found: bool,
     pub free: bool,
@@ -22,10 +26,11 @@ pub struct About {
     pub permissions: u32,
     pub owner: u32,
     pub group: u32,
+    pub why: Option<io::Error>,
 }
 
 // No file: that none has the name, or that nothing is known of it.
-pub fn missing(free: bool) -> About
+pub fn missing(free: bool, why: io::Error) -> About
     ensures { (result.found ≡ false) × (result.regular ≡ false) }
 {
     About {
@@ -35,81 +40,50 @@ pub fn missing(free: bool) -> About
         permissions: 0,
         owner: 0,
         group: 0,
+        why: Some(why),
     }
 }
 
-// What the system answered, and what it filled in.
-#[derive(Drop)]
-struct Told {
-    status: i32,
-    about: stat,
+// The bytes of a name up to its first 0.
+fn before_zero(name: &[u8]) -> &[u8] {
+    match name.iter().position(|byte| *byte == 0) {
+        Some(end) => &name[..end],
+        None => name,
+    }
 }
 
-// Asks the system.
-fn ask(path: &[u8; PATH_MAX], mut about: stat) -> Told
-    requires { Ended path.now }
+// A name as std takes it, byte for byte: one with a 0 is refused, and one that is not UTF-8.
+pub fn text_of(name: &[u8]) -> io::Result<&str>
+    ensures { IfOk result (λ text. text.now ≡ name.now) }
 {
-    let status = libc::stat(path, &mut about);
-    Told { status, about }
-}
-
-// Before the system has filled it in.
-fn blank() -> stat {
-    let never = timespec {
-        tv_sec: 0,
-        tv_nsec: 0,
-    };
-    stat {
-        st_dev: 0,
-        st_ino: 0,
-        st_nlink: 0,
-        st_mode: 0,
-        st_uid: 0,
-        st_gid: 0,
-        __pad: 0,
-        st_rdev: 0,
-        st_size: 0,
-        st_blksize: 0,
-        st_blocks: 0,
-        st_atim: never,
-        st_mtim: never,
-        st_ctim: never,
-        __unused: [0; 3],
+    if name.contains(&0) {
+        return Err(io::Error::from_raw_os_error(INVALID));
+    }
+    match str::from_utf8(name) {
+        Ok(text) => Ok(text),
+        Err(_) => Err(io::Error::from_raw_os_error(NO_TEXT)),
     }
 }
 
-// As much of a path as leaves room for a 0, and then zeros.
-fn ended(path: &[u8]) -> [u8; PATH_MAX]
-    ensures { Ended result }
-{
-    let mut ended = io::buffer();
-    let mut i = 0;
-    while i < path.len() {
-        if i >= LAST {
-            break;
-        }
-        ended[i] = path[i];
-        i += 1;
-    }
-    ended[LAST] = 0;
-    ended
+// What the system says of a name.
+fn ask(rt: &HostRuntime, name: &[u8]) -> io::Result<fs::Metadata> {
+    fs::metadata(rt, text_of(name)?)
 }
 
 // Looks a file up, through links. A name ends at its first 0; who opens a file by a name with a 0 in it is refused.
-pub fn look_up(path: &[u8]) -> About
+pub fn look_up(rt: &HostRuntime, path: &[u8]) -> About
     ensures { Agrees result }
 {
-    let told = ask(&ended(path), blank());
-    if told.status != 0 {
-        return missing(os::errno() == libc::ENOENT);
-    }
-    let mode = told.about.st_mode;
-    About {
-        found: true,
-        free: false,
-        regular: mode & S_IFMT == S_IFREG,
-        permissions: mode & PERMISSIONS,
-        owner: told.about.st_uid,
-        group: told.about.st_gid,
+    match ask(rt, before_zero(path)) {
+        Ok(told) => About {
+            found: true,
+            free: false,
+            regular: told.is_file(),
+            permissions: told.mode() & PERMISSIONS,
+            owner: told.uid(),
+            group: told.gid(),
+            why: None,
+        },
+        Err(why) => missing(why.kind() == ErrorKind::NotFound, why),
     }
 }

@@ -1,12 +1,17 @@
-// The line that says what failed.
+// The line that says what failed, and what the system says of why.
 
 ghost use Rattle.std.specs.Prelude.{◌≤◌, length};
-ghost use Rattle.io.specs.Counts.{IsPrefixLen};
+ghost use Rattle.std.specs.Counts.{IsPrefixLen};
 
-use libc::PATH_MAX;
+use crate::LONGEST_NAME;
+use std::fmt::Write;
+use std::{fmt, io};
 
 // The room of a line: for a path of a line of the program's, which is longer than any name, and what is said of it.
-pub const LINE_ROOM: usize = 2 * PATH_MAX + 256;
+pub const LINE_ROOM: usize = 2 * (LONGEST_NAME + 1) + 256;
+
+// The room of what std says of an error.
+const WORDS_ROOM: usize = 128;
 
 // A byte as it is shown: one that could steer a terminal is a question mark.
 fn shown(byte: u8) -> u8 {
@@ -42,4 +47,47 @@ pub fn put_line(out: &mut [u8], path: &[u8], what: &[u8]) -> usize
     let end = put_shown(out, 0, b"ringplan: ");
     let end = put_shown(out, end, path);
     put_shown(out, end, what)
+}
+
+// What std says of an error, as far as it fits.
+#[derive(Drop)]
+pub struct Words {
+    bytes: [u8; WORDS_ROOM],
+    count: usize,
+}
+
+impl Write for Words {
+    fn write_str(&mut self, text: &str) -> fmt::Result {
+        for byte in text.as_bytes() {
+            let at = self.count;
+            if at < WORDS_ROOM {
+                self.bytes[at] = *byte;
+                self.count = at + 1;
+            }
+        }
+        Ok(())
+    }
+}
+
+impl Words {
+    pub fn of(error: io::Error) -> Words {
+        let mut words = Words {
+            bytes: [0; WORDS_ROOM],
+            count: 0,
+        };
+        let _ = write!(words, "{error}");
+        words
+    }
+
+    // The system's words alone: std puts the error's number in brackets after them.
+    pub fn text(&self) -> &[u8]
+        ensures { IsPrefixLen (length result.now) self.now.bytes }
+    {
+        let text = &self.bytes[..];
+        match text.iter().rposition(|byte| *byte == b'(') {
+            Some(at) if at > 0 => &text[..at - 1],
+            _ if self.count <= text.len() => &text[..self.count],
+            _ => text,
+        }
+    }
 }

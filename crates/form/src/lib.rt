@@ -1,5 +1,7 @@
 // The saved form of a ring table: how long its parts are, its definition, and the laws of writing and reading it.
 
+#![tactic(auto)]
+
 ghost use Rattle.std.specs.Prelude.{◌≡◌, true, ◌≤◌, length};
 ghost use Rattle.ring.specs.Table.{meets_rules};
 ghost use Rattle.ring.specs.declared.RingTable.{RingTable};

@@ -1,6 +1,8 @@
 // The frequency grid of ITU-T G.694.1, by which lasers are ordered: at which frequency a wavelength stands, and which wavelength stands at
 // a frequency. Frequencies and spacings are whole counts of 100 MHz.
 
+#![tactic(auto)]
+
 ghost use Rattle.std.specs.Prelude.{◌≡◌, true, ◌<◌, pos, ◌-ℤ◌};
 ghost use Rattle.std.specs.Int.Signed.{quot_z};
 ghost use Rattle.refusals.specs.Refusal.{judged};
@@ -13,25 +15,25 @@ use lightpath::Wavelength;
 use refusals::{Refusal, Verdict};
 
 // A frequency in counts of 100 MHz.
-#[derive(Drop)]
+#[derive(Clone, Copy)]
 pub struct Frequency(pub u32);
 
 // A plan of the grid: its spacing in counts of 100 MHz, and the grid number of wavelength 0.
-#[derive(Drop)]
+#[derive(Clone, Copy)]
 pub struct GridPlan {
     pub spacing: u32,
     pub start: i32,
 }
 
 // At which frequency a wavelength stands.
-#[derive(Drop)]
+#[derive(Clone, Copy)]
 pub enum Tuned {
     To(Frequency),
     Refused(Refusal),
 }
 
 // Which wavelength stands at a frequency.
-#[derive(Drop)]
+#[derive(Clone, Copy)]
 pub enum Carried {
     By(Wavelength),
     Refused(Refusal),

@@ -1,5 +1,7 @@
 // Bytes as hexadecimal digits, two to a byte with the higher first, and back.
 
+#![tactic(auto)]
+
 ghost use Rattle.std.specs.Prelude.{◌≡◌, ◌*◌, ◌<◌, ◌≤◌, length};
 ghost use Rattle.buffer.specs.Put.{Put, Room};
 ghost use Rattle.hex_text.specs.Hex.{digit_of, pair_of, hex_of, no_digit, letter_value, value_of, byte_of, Unhexed};
@@ -11,7 +13,7 @@ const NO_DIGIT: u8 = 16;
 const NO_BYTE: u16 = 256;
 
 // How many bytes a text of digits is, or that it is none.
-#[derive(Drop)]
+#[derive(Clone, Copy)]
 pub enum Digits {
     Bytes(usize),
     Bad,

@@ -1,5 +1,7 @@
 // What is on a ring, as the lines that answer for it: its saved form, the load of each link, the circuit on one link, every circuit.
 
+#![tactic(auto)]
+
 ghost use Rattle.std.specs.Prelude.{◌+◌, ◌≤◌, length};
 ghost use Rattle.slots.specs.Slot.{held};
 ghost use Rattle.form.specs.Form.{longest_form};

@@ -1,5 +1,7 @@
 // What is printed of lasers: the frequency at which a wavelength of a plan stands, and the wavelength at a frequency.
 
+#![tactic(auto)]
+
 ghost use Rattle.std.specs.Prelude.{◌+◌, ◌≤◌, length};
 ghost use Rattle.buffer.specs.Put.{Printed};
 ghost use Rattle.grid.specs.Tuning.{tuned_of, carried_of};

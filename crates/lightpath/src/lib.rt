@@ -1,28 +1,30 @@
 // The geometry of the ring: directions, wavelengths and places, and circuits on it. A node, a link and a port count are bytes;
 // what counts hops asks for at least one node, since hops are counted modulo the number of nodes.
 
+#![tactic(auto)]
+
 ghost use Rattle.std.specs.Prelude.{◌≡◌, ◌+◌, ◌*◌, ◌<◌};
 ghost use Rattle.limits.specs.Limits.{place_count};
 ghost use Rattle.lightpath.specs.Place.{place_of, wavelength_of, direction_of, same_direction, other_way};
 ghost use Rattle.lightpath.specs.Circuit.{on_ring, joins, ahead, hops, uses, shorter_way, adjacent, can_share, share_direction};
 
 // The two ways round the ring.
-#[derive(Drop)]
+#[derive(Clone, Copy)]
 pub enum Direction {
     Clockwise,
     Counterclockwise,
 }
 
 // A wavelength number: it counts within one direction.
-#[derive(Drop)]
+#[derive(Clone, Copy)]
 pub struct Wavelength(pub u8);
 
 // A directed wavelength number, which document 01 calls a place: it counts both directions.
-#[derive(Drop)]
+#[derive(Clone, Copy)]
 pub struct Place(pub u8);
 
 // A circuit from one node to another. Several may join the same nodes; a remark of 0 is none, and so is an account of 0.
-#[derive(Drop)]
+#[derive(Clone, Copy)]
 pub struct Circuit {
     pub number: u32,
     pub source: u8,

@@ -1,6 +1,8 @@
 // Document 01's limits, each once. The definitions have the same names in their own spelling, `place_count` for `PLACE_COUNT`: what is
 // promised speaks of those, so that a constant with another value is refused where it is used.
 
+#![tactic(auto)]
+
 // The directed wavelength places of a table.
 pub const PLACE_COUNT: usize = 128;
 

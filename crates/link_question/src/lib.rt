@@ -1,5 +1,7 @@
 // The one-link question of a ring table: which circuit runs over a link, on a wavelength, in a direction.
 
+#![tactic(auto)]
+
 ghost use Rattle.std.specs.Prelude.{◌≡◌, true, ◌<◌};
 ghost use Rattle.lightpath.specs.Circuit.{on_ring};
 ghost use Rattle.slots.specs.Slot.{held};

@@ -1,6 +1,6 @@
 -- Words of places that come in any order: those of one place, and of two tests the places that pass either and those that pass both.
 -- Assumes nothing.
-use Prim.Native.Nat.{ℕ, zero, suc, ◌+◌, ◌-◌, ◌*◌, ◌/◌, ◌%◌, ◌^◌, ◌≤◌, ◌<◌, min, max}
+use Prim.Native.Nat.{ℕ, zero, suc, ◌+◌, ◌-◌, ◌*◌, ◌%◌, ◌^◌, ◌≤◌, ◌<◌, min, max}
 use mathlib.Core.Path.{◌≡◌, refl, ◌∙◌}
 use mathlib.Core.Logic.{◌≢◌}
 use mathlib.Core.Bool.{Bool, true, false, ◌&&◌, ◌||◌}
@@ -54,14 +54,12 @@ word_off p (suc k) i h =
     omega (arith, bit_ne p i (h i (omega arith) (omega arith)), word_off p k (suc i) (λ q a b. h q (omega arith) (omega arith)))
 
 -- and where it is
-word_on : (k i j : ℕ) → j < k → word (λ q. eqb (i + j) q) k i ≡ 2 ^ j
+word_on : (p k i j : ℕ) → i + j ≡ p → j < k → word (λ q. eqb p q) k i ≡ 2 ^ j
 unfolding word
-word_on zero i j l = absurd (omega arith)
-word_on (suc k) i zero l =
-    omega (arith, bit_eq (i + 0) i (omega arith), word_off (i + 0) k (suc i) (λ q a b e. absurd (omega arith)))
-word_on (suc k) i (suc j) l =
-    let e : i + suc j ≡ suc i + j = omega arith in
-    rw e (omega (arith, bit_ne (suc i + j) i (λ s. absurd (omega arith)), word_on k (suc i) j (omega arith), pow-suc 2 j))
+word_on p zero i j e l = absurd (omega arith)
+word_on p (suc k) i zero e l = omega (arith, bit_eq p i (omega arith), word_off p k (suc i) (λ q a b s. absurd (omega arith)))
+word_on p (suc k) i (suc j) e l =
+    omega (arith, bit_ne p i (λ s. absurd (omega arith)), word_on p k (suc i) j (omega arith) (omega arith), pow-suc 2 j)
 
 -- no place
 pub words_none : record { low = 0; high = 0 } ≡ words_of (λ q. false)
@@ -83,8 +81,7 @@ words_one p h = go (ltb p 64) refl
     go : (o : Bool) → ltb p 64 ≡ o → with_place (record { low = 0; high = 0 }) p ≡ words_of (λ q. eqb p q)
     go true e =
         let l = ltb-true p 64 e in
-        rw (e, zero-add (2 ^ p), rw zero-add at (word_on 64 0 p l), word_off p 64 64 (λ q a b s. absurd (omega arith)))
+        rw (e, zero-add (2 ^ p), word_on p 64 0 p (omega arith) l, word_off p 64 64 (λ q a b s. absurd (omega arith)))
     go false e =
         let l = ltb-false p 64 e in
-        let s : 64 + (p - 64) ≡ p = omega arith in
-        rw (e, zero-add (2 ^ (p - 64)), rw s at (word_on 64 64 (p - 64) (omega arith)), word_off p 64 0 (λ q a b s. absurd (omega arith)))
+        rw (e, zero-add (2 ^ (p - 64)), word_on p 64 64 (p - 64) (omega arith) (omega arith), word_off p 64 0 (λ q a b s. absurd (omega arith)))

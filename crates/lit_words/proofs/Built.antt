@@ -135,5 +135,5 @@ module _ {f : ℕ → Bool} where
         joins : g (p - 1) ≡ true
         joins = rw (eq-eqb (p - 1) (p - 1) refl)
 
--- for `search (needs, built)`
+-- for `search (rules, built)`
 pub ruleset built = (built_start, built_skip, built_next, built_room, built_end)

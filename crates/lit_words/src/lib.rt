@@ -1,6 +1,8 @@
 // The lit places of a ring as two 64-bit words: ones count the lit places, trailing zeros of the complement find the lowest unlit one, of
 // all places or of those of one direction.
 
+#![tactic(auto)]
+
 ghost use Rattle.std.specs.Prelude.{◌<◌, ◌≤◌, ◌≡◌, ◌||◌, not, ltb};
 ghost use Rattle.limits.specs.Limits.{place_count};
 ghost use Rattle.lit_words.specs.Lit.{lit_bit, ones_of, none_lit_from};
@@ -17,7 +19,7 @@ const CLOCKWISE_PLACES: u64 = 0x5555555555555555;
 const COUNTERCLOCKWISE_PLACES: u64 = 0xaaaaaaaaaaaaaaaa;
 
 // The lit places: place p is bit p of low, or bit p - 64 of high.
-#[derive(Drop)]
+#[derive(Clone, Copy)]
 pub struct Lit {
     pub low: u64,
     pub high: u64,

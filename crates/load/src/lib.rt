@@ -1,5 +1,7 @@
 // The load report of a ring: how many lightpaths run over each link, each way, in one walk round it.
 
+#![tactic(auto)]
+
 mod ends;
 
 ghost use Rattle.std.specs.Prelude.{◌≡◌, true, [], ◌++◌, ◌*◌, ◌≤◌, length, drop};

@@ -1,5 +1,7 @@
 // The one-link question of a saved form, for a monitor in C.
 
+#![tactic(auto)]
+
 ghost use Rattle.std.specs.Prelude.{◌≡◌};
 ghost use Rattle.monitor.specs.Question.{ring_link};
 

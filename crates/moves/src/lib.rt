@@ -1,5 +1,7 @@
 // The records of moved circuits, and the list that a host lends for them.
 
+#![tactic(auto)]
+
 ghost use Rattle.std.specs.Prelude.{◌≡◌, [], ◌∷◌, ◌+◌, ◌<◌, ◌≤◌, length};
 ghost use Rattle.limits.specs.Limits.{tidy_records};
 ghost use Rattle.moves.specs.Records.{none, one, two, three, listed};
@@ -11,7 +13,7 @@ use lightpath::Place;
 use limits::{LEAST_RECORDS, TIDY_RECORDS};
 
 // One move of a running circuit: its number, its old place and its new one.
-#[derive(Drop)]
+#[derive(Clone, Copy)]
 pub struct Move {
     pub number: u32,
     pub from: Place,
@@ -22,7 +24,7 @@ pub struct Move {
 pub const MOST_MOVES: usize = 3;
 
 // Up to three moves by value, in their order: the first `count` of the three.
-#[derive(Drop)]
+#[derive(Clone, Copy)]
 pub struct Moves {
     pub count: u8,
     pub first: Move,
@@ -31,7 +33,7 @@ pub struct Moves {
 }
 
 // Up to 128 moves by value, in their order: the first `count` of the list.
-#[derive(Drop)]
+#[derive(Clone, Copy)]
 pub struct MoveList {
     pub count: usize,
     pub list: [Move; TIDY_RECORDS],

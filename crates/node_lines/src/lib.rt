@@ -1,5 +1,7 @@
 // What is printed of the nodes of a ring: the circuits to one of them, and of each its ports and how many circuits it sends and receives.
 
+#![tactic(auto)]
+
 ghost use Rattle.std.specs.Prelude.{◌≡◌, true, ◌+◌, ◌≤◌, length};
 ghost use Rattle.ring.specs.Table.{meets_rules};
 ghost use Rattle.buffer.specs.Put.{Printed};

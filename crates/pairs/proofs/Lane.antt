@@ -57,7 +57,7 @@ module _ {d : Direction} {list : List Standing} {n : ℕ} where
   pub lane_end : {i : ℕ} → Passing d list n i → n ≤ i → blank_standing ≡ first_in d (take n list)
   lane_end {i} p h = sym (get_or-eq_default (take n list) blank_standing (left_end (rw (past list n i p.room h) at p.left)))
 
--- for `search (needs, lane)`
+-- for `search (rules, lane)`
 pub ruleset lane = (array_length, lane_start, lane_miss, lane_hit, lane_end)
 
 -- the circuit of content k, of contents whose places count from p
@@ -130,5 +130,5 @@ module _ (N m : ℕ) (t : Channels) (c : Circuit) (can : Searchable N m t c) (al
       let way : d ≡ share_direction N (found_pair m t c).0.circuit (found_pair m t c).1.circuit = rw pair at f in
       rw (pair, h, are.are, x_found m t c d (omega (arith, long, can.low)) can.low (can.lane d), way)
 
--- for `search (needs, found)`
+-- for `search (rules, found)`
 pub ruleset found = (array_length, found_wanted, found_all)

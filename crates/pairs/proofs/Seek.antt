@@ -1,5 +1,5 @@
 -- The candidates in an array, and the search for their first adjacent pair: how far it is, and each step of its loops. Each law takes
--- a callee's answer and the branch's test as they stand in the record of a need, so that `search (needs, seek)` finds them. Assumes nothing.
+-- a callee's answer and the branch's test as they stand in the record of a need, so that `search (rules, seek)` finds them. Assumes nothing.
 use Prim.Native.Nat.{ℕ, ◌+◌, ◌≤◌, ◌<◌}
 use mathlib.Core.Path.{◌≡◌, refl, sym, ap, ◌∙◌}
 use mathlib.Core.Bool.{Bool, true, false}

@@ -1,5 +1,7 @@
 // Step 3's search: the first adjacent pair of the candidates, how many pairs are tested, and x.
 
+#![tactic(auto)]
+
 ghost use Rattle.std.specs.Prelude.{◌≡◌, ◌+◌, ◌<◌, ◌≤◌, length};
 ghost use Rattle.basis.specs.Search.{pairs_of};
 ghost use Rattle.limits.specs.Limits.{place_count};
@@ -13,7 +15,7 @@ use lightpath::{BLANK_CIRCUIT, Circuit, Direction, Place};
 use limits::PLACE_COUNT;
 
 // A pair of the candidates, and the number of pairs tested, that one included.
-#[derive(Drop)]
+#[derive(Clone, Copy)]
 pub struct Pair {
     pub first: Standing,
     pub second: Standing,
@@ -21,7 +23,7 @@ pub struct Pair {
 }
 
 // The pair that step 3 finds, and x: of the nonsharing circuits in the direction that 3b would take, the one at the lowest place.
-#[derive(Drop)]
+#[derive(Clone, Copy)]
 pub struct Found {
     pub pair: Pair,
     pub x: Standing,

@@ -1,5 +1,8 @@
 // A picture of a ring in text, for people: a row for each wavelength each way round, a column for each link, and in each cell the circuit
 // that runs there; then the load of each link, and the free ports of each node.
+
+#![tactic(auto)]
+
 mod row;
 
 ghost use Rattle.std.specs.Prelude.{◌≡◌, true, ◌+◌, ◌≤◌, length};

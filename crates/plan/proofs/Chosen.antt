@@ -66,8 +66,8 @@ module _ (N m : ℕ) (t : Channels) (c : Circuit) (v : Survey) (e : v ≡ survey
     pub none_unlit : m ≤ u → m ≤ unlit_place N m t c
     none_unlit full = rw same at full
 
--- for `search (needs, rearranged)`
+-- for `search (rules, rearranged)`
 pub ruleset rearranged = (array_length, plan_searchable, plan_movable, plan_moves)
 
--- for `search (needs, chosen)`
+-- for `search (rules, chosen)`
 pub ruleset chosen = (below_there, plan_joins, plan_lights, seen_alone, none_unlit)

@@ -1,5 +1,5 @@
 -- What each step's function made is the step's plan. Each law takes what the calls gave and what the branches tested as they stand in the
--- record of a need, so that `search (needs, made)` finds them. Assumes nothing.
+-- record of a need, so that `search (rules, made)` finds them. Assumes nothing.
 use Prim.Native.Nat.{ℕ, ◌≤◌, ◌<◌}
 use mathlib.Core.Path.{◌≡◌, refl, sym, ◌∙◌}
 use mathlib.Core.Bool.{Bool, true, false}

@@ -1,6 +1,8 @@
 // Plans by value: the first of document 01's steps that serves a new circuit, and what each does with what was found for it. The places are
 // changed by whoever holds them.
 
+#![tactic(auto)]
+
 ghost use Rattle.std.specs.Prelude.{◌≡◌, ◌<◌};
 ghost use Rattle.limits.specs.Limits.{place_count};
 ghost use Rattle.steps.specs.Steps.{plan_of};
@@ -20,7 +22,7 @@ pub use rearrange::{stands_right, step_three};
 use survey::Survey;
 
 // A plan: which places get what, the place taken, the moves and the looks.
-#[derive(Drop)]
+#[derive(Clone, Copy)]
 pub struct Planned {
     pub changes: Changes,
     pub place: Place,

@@ -321,5 +321,5 @@ module _ (d : DeskState) (keys rests line l : List ℕ) (at : ℕ) (q : CanAnswe
   run_desk keys' rests' l' r e h =
       whole (drawn []) keys' rests' l' r refl (rw (← is, e) (record { desk = h.desk; text = wider (omega arith) h.text; keeps = h.keeps }))
 
--- for `search (needs, run_by)`: a line was run, and demand 3 holds of what it left
+-- for `search (rules, run_by)`: a line was run, and demand 3 holds of what it left
 pub ruleset run_by = (plan_opens, run_word, run_file, run_asked, run_frequency, run_wavelength, run_tidied, run_looked, run_desk)

@@ -28,13 +28,19 @@ pub fn answer_write(table: RingTable, out: &mut [u8], at: usize) -> usize
 }
 
 // `write @PATH`
-pub fn answer_write_file(table: RingTable, path: &[u8], out: &mut [u8], at: usize) -> usize
+pub fn answer_write_file(
+    rt: &HostRuntime,
+    table: RingTable,
+    path: &[u8],
+    out: &mut [u8],
+    at: usize,
+) -> usize
     requires { Asks table out.old at }
     ensures { FileWritten (length (form_of table)) out.old at out.new result }
 {
     let mut form = [0u8; LONGEST_FORM];
     let length = saved_forms::form_of(table, &mut form);
-    if files::write_file(path, &form[..length]) {
+    if files::write_file(rt, path, &form[..length]) {
         return inventory::put_length(out, at, length as u32);
     }
     buffer::put_text(out, at, b"write failed\n")

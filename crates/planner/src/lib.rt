@@ -1,5 +1,8 @@
 // One line of the planner's program, run and answered as bytes. The circuits stand in keys and rests that the caller lends, and are changed
 // there.
+
+#![tactic(auto)]
+
 mod ask;
 
 ghost use Rattle.std.specs.Prelude.{◌≡◌, ◌+◌, ◌≤◌, length};
@@ -52,13 +55,20 @@ fn run_read(
 }
 
 // The answer to a question of the table.
-fn answer(table: RingTable, question: Question, line: &[u8], out: &mut [u8], at: usize) -> usize
+fn answer(
+    rt: &HostRuntime,
+    table: RingTable,
+    question: Question,
+    line: &[u8],
+    out: &mut [u8],
+    at: usize,
+) -> usize
     requires { Asks table out.old at × (Command.Ask question ≡ command_of line.now) }
     ensures { QuestionAnswered table question out.old at out.new result }
 {
     match question {
         Question::Write => ask::answer_write(table, out, at),
-        Question::WriteFile(start) => ask::answer_write_file(table, &line[start..], out, at),
+        Question::WriteFile(start) => ask::answer_write_file(rt, table, &line[start..], out, at),
         Question::Load => ask::answer_load(table, out, at),
         Question::Link {
             link,
@@ -74,6 +84,7 @@ fn answer(table: RingTable, question: Question, line: &[u8], out: &mut [u8], at:
 
 // A question of the table that the keys and the rests are of, which is refused where there is none.
 fn run_question(
+    rt: &HostRuntime,
     desk: DeskState,
     keys: &[u64],
     rests: &[u64],
@@ -90,7 +101,7 @@ fn run_question(
     }
     let heading = desk.heading;
     let table = roster::table_in(heading, keys, rests);
-    let next = answer(table, question, line, out, at);
+    let next = answer(rt, table, question, line, out, at);
     Ran { desk, next }
 }
 
@@ -141,6 +152,7 @@ fn run_from(
 // Runs a line without its line end, and writes the answer at a position of the lent bytes. One that is no command is run as the script
 // program runs it.
 pub fn run_line(
+    rt: &HostRuntime,
     desk: DeskState,
     keys: &mut [u64],
     rests: &mut [u64],
@@ -156,9 +168,9 @@ pub fn run_line(
     match command {
         Command::Read(start) => run_read(desk, keys, rests, &line[start..], out, at),
         Command::ReadFile(start) => {
-            saved_forms::run_read_file(desk, keys, rests, &line[start..], out, at)
+            saved_forms::run_read_file(rt, desk, keys, rests, &line[start..], out, at)
         }
-        Command::Ask(question) => run_question(desk, keys, rests, question, line, out, at),
+        Command::Ask(question) => run_question(rt, desk, keys, rests, question, line, out, at),
         Command::Frequency {
             spacing,
             start,

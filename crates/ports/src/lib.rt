@@ -1,5 +1,7 @@
 // Port counts: their sum, the wavelengths that they ask for, the ring rules on them, and whether a node has a free port.
 
+#![tactic(auto)]
+
 ghost use Rattle.std.specs.Prelude.{◌≡◌, ◌≤◌, leb, ltb, take};
 ghost use Rattle.basis.specs.Count.{total};
 ghost use Rattle.limits.specs.Limits.{most_nodes, port_fields, most_ports};

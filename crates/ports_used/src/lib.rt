@@ -1,5 +1,7 @@
 // The circuits of one place counted by what a request asks for: by number, by the node that sends, by the node that receives.
 
+#![tactic(auto)]
+
 ghost use Rattle.std.specs.Prelude.{◌≡◌, ◌≤◌};
 ghost use Rattle.basis.specs.Choice.{bit};
 ghost use Rattle.slots.specs.Slot.{held};

@@ -1,4 +1,7 @@
 // What the script program prints: the lines that answer a request, as text in lent bytes.
+
+#![tactic(auto)]
+
 ghost use Rattle.std.specs.Prelude.{◌+◌, ◌*◌, ◌≤◌, ◌++◌, length};
 ghost use Rattle.buffer.specs.Put.{Printed};
 ghost use Rattle.moves.specs.Records.{most_moves, listed};

@@ -1,10 +1,12 @@
 // Document 01's refusals, their numbers, and whether a call goes ahead.
 
+#![tactic(auto)]
+
 ghost use Rattle.std.specs.Prelude.{◌≡◌};
 ghost use Rattle.refusals.specs.Refusal.{number_of};
 
 // Why a call is refused. `refusal_number` gives document 01's number of each.
-#[derive(Drop)]
+#[derive(Clone, Copy)]
 pub enum Refusal {
     NodeCount,
     PortCount,
@@ -30,7 +32,7 @@ pub enum Refusal {
 }
 
 // Whether a request goes ahead.
-#[derive(Drop)]
+#[derive(Clone, Copy)]
 pub enum Verdict {
     Granted,
     Refused(Refusal),

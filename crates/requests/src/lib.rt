@@ -1,4 +1,7 @@
 // One line of a script, parsed into a request.
+
+#![tactic(auto)]
+
 ghost use Rattle.std.specs.Prelude.{◌≡◌, ◌≤◌, length, drop};
 ghost use Rattle.words.specs.Split.{other_words};
 ghost use Rattle.words.specs.Parse.{at_end};
@@ -15,7 +18,7 @@ pub const LONGEST_LINE: usize = 256;
 pub const PORT_ROOM: usize = LONGEST_LINE / 2;
 
 // What a line asks for. A ring counts its ports, which stand beside it in the line.
-#[derive(Drop)]
+#[derive(Clone, Copy)]
 pub enum Request {
     Ring { nodes: u8, count: usize },
     Open { circuit: Circuit },
@@ -24,7 +27,7 @@ pub enum Request {
 }
 
 // A parsed line: the request, and a ring's ports with zeros after them.
-#[derive(Drop)]
+#[derive(Clone, Copy)]
 pub struct Line {
     pub request: Request,
     pub ports: [u8; PORT_ROOM],

@@ -137,5 +137,5 @@ module _ (t : RingTable) (c : Circuit) (m : ℕ) (v : Survey) (seen : v ≡ surv
   pub used_permits : judged (named_causes t.nodes c) ≡ granted → w ≡ granted → Allowable t.nodes t.ports t.channels c
   used_permits named h = allowable t c (judged_past (named_causes t.nodes c) (used_causes t c) named ∙ sym in_use ∙ h)
 
--- for `search (needs, deciding)`
+-- for `search (rules, deciding)`
 pub ruleset deciding = (decide_refused, decide_granted, named_granted, used_refused, used_granted, used_permits)

@@ -1,5 +1,5 @@
 -- The laws of the ring table: what the ring rules say of it, what is refused, the answers in numbers, demand 3, step 2's place, that making,
--- opening and closing keep the rules, what a tidying does; and the handing on of a list that was lent.
+-- opening and closing keep the rules, and what a tidying does.
 pub mod TableRules
 pub mod Causes
 pub mod Placing
@@ -10,4 +10,3 @@ pub mod ShorterWay
 pub mod Closing
 pub mod Making
 pub mod Rounds
-pub mod Lending

@@ -53,7 +53,7 @@ module _ (N : ℕ) (ks : List ℕ) (r : Bool) (e : r ≡ (leb 3 N && leb N 64 &&
           → record { table = b; verdict = refused x } ≡ make_of N ks
       make_refused b x k u = rw u (sym (make_ports (refused x) k))
 
--- for `search (needs, making)`
+-- for `search (rules, making)`
 pub ruleset making = (make_count, count_most, make_granted, make_refused)
 
 -- within the limits, a fresh table meets the rules

@@ -48,5 +48,5 @@ module _ (t : RingTable) (rules : meets_rules t ≡ true) where
     pub placing_keeps : PlanKeeps t.nodes t.ports t.channels c (placing t c).opened.table.channels (planned t c).taken (planned t c).moves
     placing_keeps = plan_serves t.nodes t.ports t.channels c (table_rules t rules) may
 
--- for `search (needs, places)`
+-- for `search (rules, places)`
 pub ruleset places = (survey_some, survey_low, placing_ready, carried_out_lem)

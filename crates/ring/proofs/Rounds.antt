@@ -236,5 +236,5 @@ pub moves_byte : (t : RingTable) (m : ℕ) (p : TidiedPlaces) → meets_rules t 
     → p.moves.count < 256
 moves_byte t m p rules e l = rw (e, l) (omega (arith, few_moves t rules))
 
--- for `search (needs, tidying)`
+-- for `search (rules, tidying)`
 pub ruleset tidying = (tidy_refused, tidied_up, moves_byte, tidy_nodes, tidy_low)

@@ -1,6 +1,8 @@
 // The ring table and what a host calls on it: making a ring, opening and closing circuits, tidying. A call on a table takes it whole and
 // gives it back whole beside its answer; a refusal gives it back as it was.
 
+#![tactic(auto)]
+
 mod close;
 mod decide;
 mod lend;
@@ -19,7 +21,7 @@ use refusals::{Refusal, Verdict};
 
 // What stands at the places of a ring, the ports of each node (those beyond the last zero), and the number of nodes. The places come
 // first, so that they begin where the table does and a copy of them is whole: bytes before them would be copied along.
-#[derive(Drop)]
+#[derive(Clone, Copy)]
 pub struct RingTable {
     pub channels: [Channel; PLACE_COUNT],
     pub ports: [u8; PORT_FIELDS],
@@ -27,49 +29,49 @@ pub struct RingTable {
 }
 
 // The answer to an opening: the place taken, the number of moves and of pairs tested; or the refusal.
-#[derive(Drop)]
+#[derive(Clone, Copy)]
 pub enum Opening {
     Taken { place: Place, moves: u8, looks: u16 },
     Refused(Refusal),
 }
 
 // The table after an opening, beside the answer.
-#[derive(Drop)]
+#[derive(Clone, Copy)]
 pub struct Opened {
     pub table: RingTable,
     pub answer: Opening,
 }
 
 // An opening decided by value, with the moves that go to the lent list.
-#[derive(Drop)]
+#[derive(Clone, Copy)]
 pub struct Decision {
     pub opened: Opened,
     pub moves: Moves,
 }
 
 // The table after a closing, or after a ring was made, beside the verdict.
-#[derive(Drop)]
+#[derive(Clone, Copy)]
 pub struct Answered {
     pub table: RingTable,
     pub verdict: Verdict,
 }
 
 // The answer to a tidying: the number of rounds and of moves; or the refusal.
-#[derive(Drop)]
+#[derive(Clone, Copy)]
 pub enum Tidying {
     Done { rounds: u8, moves: u8 },
     Refused(Refusal),
 }
 
 // The table after a tidying, beside the answer.
-#[derive(Drop)]
+#[derive(Clone, Copy)]
 pub struct Tidied {
     pub table: RingTable,
     pub answer: Tidying,
 }
 
 // A tidying decided by value, with the moves that go to the lent list.
-#[derive(Drop)]
+#[derive(Clone, Copy)]
 pub struct TidyDecision {
     pub tidied: Tidied,
     pub moves: MoveList,

@@ -39,7 +39,7 @@ module _ (key rest : ℕ) (m : Standing) (e : m ≡ entry_of key rest) where
   unfolding with_entry
   entry_summed sum = rw e
 
--- for `search (needs, summed)`
+-- for `search (rules, summed)`
 pub ruleset summed = (ends_fit, sum_fits, entry_summed)
 
 -- those from i on are still to be summed
@@ -63,7 +63,7 @@ module _ (keys rests : List ℕ) (sum last i : ℕ) (q : Summing keys rests sum 
   pub sum_all : length keys ≤ i → last ≡ with_all sum (entries_in keys rests)
   sum_all h = rw (drop_of_length-le keys h) at q.rest
 
--- for `search (needs, summing)`
+-- for `search (rules, summing)`
 pub ruleset summing = (sum_none, sum_next, sum_all)
 
 -- those of the nodes up to this one are summed
@@ -86,7 +86,7 @@ rows_next es N sum last node r q h e = record { is = rw (add-one node) (rw (add-
 pub rows_all_lem : (es : List Standing) (N sum last node : ℕ) → Rowed es N sum last node → N ≤ node → last ≡ with_rows es sum N
 rows_all_lem es N sum last node q h = let e : node ≡ N = omega (arith, q.within) in rw e at q.is
 
--- for `search (needs, rows_all)`
+-- for `search (rules, rows_all)`
 pub ruleset rows_all = (rows_none, rows_next, rows_all_lem)
 
 module _ (N : ℕ) (ks : List ℕ) (t : Channels) (keys rests : List ℕ) (count : ℕ) (h : Holds N ks t keys rests count) (node : ℕ) (r : Row)
@@ -100,7 +100,7 @@ module _ (N : ℕ) (ks : List ℕ) (t : Channels) (keys rests : List ℕ) (count
       → s ≡ with_all last (row_of node (entries t))
   row_summed last s f = f ∙ ap (with_all last) (held_row N ks t keys rests count h node r e)
 
--- for `search (needs, held, rowed)`
+-- for `search (rules, held, rowed)`
 pub ruleset rowed = (row_scaled, rests_same, row_summed)
 
 -- all nodes are looked up i times
@@ -122,7 +122,7 @@ repeat_next es N count sum i r q h e = record { is = rw (add-one i, e, q.is); wi
 pub repeat_all : (es : List Standing) (N count sum i : ℕ) → Repeated es N count sum i → count ≤ i → sum ≡ lookups es N count
 repeat_all es N count sum i q h = let e : i ≡ count = omega (arith, q.within) in rw e at q.is
 
--- for `search (needs, repeated)`
+-- for `search (rules, repeated)`
 pub ruleset repeated = (repeat_none, repeat_next, repeat_all)
 
 module _ (t : RingTable) (h : Heading) (keys rests : List ℕ) (H : HoldsTable t h keys rests) where
@@ -134,5 +134,5 @@ module _ (t : RingTable) (h : Heading) (keys rests : List ℕ) (H : HoldsTable t
   pub roster_looked : (count r : ℕ) → r ≡ lookups (entries (places_of keys rests h.count)) h.nodes count → r ≡ lookups (entries t.channels) t.nodes count
   roster_looked count r e = e ∙ ap (λ u. lookups (entries u.channels) u.nodes count) (held_table t h keys rests H)
 
--- for `search (needs, looked_up)`
+-- for `search (rules, looked_up)`
 pub ruleset looked_up = (roster_holds, roster_looked)

@@ -5,24 +5,38 @@
 // the circuits of each node, 1 to N in turn, COUNT times over in a roster, with `scan` at the table's places, and writes a checksum of what is
 // found, four bytes, highest first.
 
+#![tactic(auto)]
+
 mod afresh;
 mod lookups;
 mod scan;
-mod tidying;
+mod tidyings;
 
 ghost use Rattle.std.specs.Prelude.{◌≡◌, true, ◌*◌, ◌≤◌, length};
+ghost use Rattle.std.specs.Counts.{IsPrefixLen};
 ghost use Rattle.limits.specs.Limits.{most_nodes};
 ghost use Rattle.ring.specs.Table.{meets_rules};
 
 use form::{LONGEST_FORM, NUMBER_WIDTH};
-use libc::{STDERR_FILENO, STDIN_FILENO, STDOUT_FILENO};
 use load::MOST_LOADS;
 use refusals::Verdict;
 use ring::RingTable;
-use tidying::MOST_RECORDED;
+use std::env::Env;
+use std::io::Read;
+use tidyings::MOST_RECORDED;
 
 // The bytes of an argument at most.
 const LONGEST_WORD: usize = 16;
+
+// Writes to standard output.
+fn put(rt: &HostRuntime, bytes: &[u8]) {
+    let _ = rt.write_all(bytes);
+}
+
+// Says on standard error what is wrong.
+fn say(rt: &HostRuntime, line: &[u8]) {
+    let _ = rt.stderr().write_all(line);
+}
 
 // The number that a word begins with; from a hundred million on it gets no further digit.
 fn number_of(word: &[u8]) -> u32 {
@@ -75,7 +89,7 @@ fn copy(table: RingTable, count: u32, out: &mut [u8])
 }
 
 // Which report is asked for, by its first letter, so many times.
-fn repeat(kind: u8, table: RingTable, count: u32, out: &mut [u8])
+fn repeat(rt: &HostRuntime, kind: u8, table: RingTable, count: u32, out: &mut [u8])
     requires { (meets_rules table ≡ true) × (2 * most_nodes ≤ length out.old) }
 {
     match kind {
@@ -83,8 +97,8 @@ fn repeat(kind: u8, table: RingTable, count: u32, out: &mut [u8])
         b'a' => count_afresh(table, count, out),
         b'c' => copy(table, count, out),
         _ => {
-            io::write_all(
-                STDERR_FILENO,
+            say(
+                rt,
                 b"ring_bench: KIND is walk, afresh, copy, tidy, from or scan\n",
             );
         }
@@ -92,69 +106,82 @@ fn repeat(kind: u8, table: RingTable, count: u32, out: &mut [u8])
 }
 
 // Writes the report that it leaves.
-fn run_load(kind: u8, table: RingTable, count: u32)
+fn run_load(rt: &HostRuntime, kind: u8, table: RingTable, count: u32)
     requires { meets_rules table ≡ true }
 {
     let mut out = [0u8; MOST_LOADS];
-    repeat(kind, table, count, &mut out);
+    repeat(rt, kind, table, count, &mut out);
     let length = 2 * table.nodes as usize;
-    io::write_all(STDOUT_FILENO, &out[..length]);
+    put(rt, &out[..length]);
 }
 
 // Tidies the table so many times, and writes what the last time gave.
-fn run_tidy(table: RingTable, count: u32)
+fn run_tidy(rt: &HostRuntime, table: RingTable, count: u32)
     requires { meets_rules table ≡ true }
 {
-    let decision = tidying::repeat(table, count);
+    let decision = tidyings::repeat(table, count);
     let tidied = decision.tidied;
     let answer = tidied.answer;
     let mut records = [0u8; MOST_RECORDED];
-    let recorded = tidying::put_moves(&mut records, answer, decision.moves);
-    io::write_all(STDOUT_FILENO, &records[..recorded]);
+    let recorded = tidyings::put_moves(&mut records, answer, decision.moves);
+    put(rt, &records[..recorded]);
     let mut form = [0u8; LONGEST_FORM];
     let formed = saved_forms::form_of(tidied.table, &mut form);
-    io::write_all(STDOUT_FILENO, &form[..formed]);
+    put(rt, &form[..formed]);
 }
 
 // Writes a checksum, highest byte first.
-fn write_sum(sum: u32) {
+fn write_sum(rt: &HostRuntime, sum: u32) {
     let mut out = [0u8; NUMBER_WIDTH];
     byte_numbers::put_number(&mut out, 0, sum, NUMBER_WIDTH);
-    io::write_all(STDOUT_FILENO, &out);
+    put(rt, &out);
 }
 
 // What is asked for, by its first letter.
-fn run(kind: u8, table: RingTable, count: u32)
+fn run(rt: &HostRuntime, kind: u8, table: RingTable, count: u32)
     requires { meets_rules table ≡ true }
 {
     match kind {
-        b't' => run_tidy(table, count),
-        b'f' => write_sum(lookups::by_rows(table, count)),
-        b's' => write_sum(scan::by_places(table, count)),
-        _ => run_load(kind, table, count),
+        b't' => run_tidy(rt, table, count),
+        b'f' => write_sum(rt, lookups::by_rows(table, count)),
+        b's' => write_sum(rt, scan::by_places(table, count)),
+        _ => run_load(rt, kind, table, count),
     }
 }
 
 // The table of a form, if it is accepted.
-fn run_form(kind: u8, form: &[u8], count: u32) {
+fn run_form(rt: &HostRuntime, kind: u8, form: &[u8], count: u32) {
     let read = decode::read(form);
     let table = read.table;
     let verdict = read.verdict;
     match verdict {
-        Verdict::Granted => run(kind, table, count),
+        Verdict::Granted => run(rt, kind, table, count),
         Verdict::Refused(_) => {
-            io::write_all(STDERR_FILENO, b"ring_bench: the form is refused\n");
+            say(rt, b"ring_bench: the form is refused\n");
         }
     }
 }
 
-fn main() {
+// An argument's bytes at the start of the lent ones, and how many there are, or 0 where there is none or it is longer.
+fn argument(rt: &HostRuntime, at: usize, word: &mut [u8; LONGEST_WORD]) -> usize
+    ensures { IsPrefixLen result word.new }
+{
+    rt.arg(at, word).unwrap_or(0)
+}
+
+// The bytes of standard input, as far as one read brings them.
+fn input(rt: &HostRuntime, bytes: &mut [u8; LONGEST_FORM]) -> usize
+    ensures { IsPrefixLen result bytes.new }
+{
+    rt.stdin().read(bytes).unwrap_or(0)
+}
+
+fn main(rt: HostRuntime) {
     let mut kind = [0u8; LONGEST_WORD];
-    os::arg(1, &mut kind);
+    argument(&rt, 1, &mut kind);
     let mut number = [0u8; LONGEST_WORD];
-    let digits = os::arg(2, &mut number);
+    let digits = argument(&rt, 2, &mut number);
     let mut form = [0u8; LONGEST_FORM];
-    let got = libc::read(STDIN_FILENO, &mut form);
-    let bytes = io::count(got, &form);
-    run_form(kind[0], &form[..bytes], number_of(&number[..digits]));
+    let bytes = input(&rt, &mut form);
+    run_form(&rt, kind[0], &form[..bytes], number_of(&number[..digits]));
 }

@@ -17,7 +17,7 @@ use Rattle.script.specs.declared.Fed.{Fed as FedSession}
 use Rattle.script.specs.Bytes.{start_session, ValidSession, Took, Finished}
 use Rattle.script.specs.Reads.{Reads, started, fed}
 use Rattle.script.proofs.Program.{reads_valid, took_within, finished_within}
-use Rattle.io.specs.Counts.{clamp_len}
+use Rattle.std.specs.Counts.{clamp_len}
 use Rattle.ringctl.specs.declared.Turn.{Turn}
 use Rattle.ringctl.specs.declared.Next.TheVariants.{Read, Stop, ReadFailed, WriteFailed}
 use Rattle.ringctl.specs.Turn.{below0, read_bytes, InputTaken, ReadTaken, TookIn, ReadOnce, Reached}

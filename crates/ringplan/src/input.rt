@@ -1,27 +1,27 @@
 // Lines from the bytes as they come: a line is held until it ends, and then run. The desk's circuits stand in keys and rests that are lent.
 
-ghost use Rattle.std.specs.Prelude.{◌≡◌, ◌≤◌, length};
+ghost use Rattle.std.specs.Prelude.{◌≡◌, ◌≤◌, IsTrue, length};
 ghost use Rattle.ringplan.specs.Plan.{BetweenReads, script_in, start_held};
 ghost use Rattle.ringplan.specs.Turn.{Took, TookIn, Reached, Finished};
 
 use commands::LONGEST_COMMAND;
 use desk::DeskState;
-use libc::STDOUT_FILENO;
 use limits::PORT_FIELDS;
 use roster::Heading;
+use std::io::ErrorKind;
 
 // A line's bytes, and one more by which a line is seen to be too long.
 pub const HELD_ROOM: usize = LONGEST_COMMAND + 1;
 
 // The desk, and how many bytes of a line are held.
-#[derive(Drop)]
+#[derive(Clone, Copy)]
 pub struct Held {
     pub desk: DeskState,
     pub count: usize,
 }
 
 // What is held after some bytes of a chunk, the position after them, and how many bytes their answers take at the start of the lent bytes.
-#[derive(Drop)]
+#[derive(Clone, Copy)]
 struct Fed {
     held: Held,
     taken: usize,
@@ -29,7 +29,7 @@ struct Fed {
 }
 
 // What is held after a chunk, and whether every answer was written.
-#[derive(Drop)]
+#[derive(Clone, Copy)]
 pub struct Intake {
     pub held: Held,
     pub wrote: bool,
@@ -54,6 +54,7 @@ pub fn start() -> Held
 
 // Takes a chunk's bytes in from a position on and runs the lines that end, until the room left is too little for another answer.
 fn feed(
+    rt: &HostRuntime,
     held: Held,
     keys: &mut [u64],
     rests: &mut [u64],
@@ -73,7 +74,7 @@ fn feed(
         let byte = chunk[i];
         i += 1;
         if byte == b'\n' {
-            let ran = planner::run_line(desk, keys, rests, &line[..count], out, at);
+            let ran = planner::run_line(rt, desk, keys, rests, &line[..count], out, at);
             desk = ran.desk;
             at = ran.next;
             count = 0;
@@ -99,14 +100,29 @@ fn feed(
     }
 }
 
+// Writes answers to standard output, and gives whether they were written. Where they were not, `unread` is whether nobody reads them.
+pub fn put(rt: &HostRuntime, answers: &[u8], unread: &mut bool) -> bool
+    ensures { IsTrue result → unread.new ≡ unread.old }
+{
+    match rt.write_all(answers) {
+        Ok(()) => true,
+        Err(why) => {
+            *unread = why.kind() == ErrorKind::BrokenPipe;
+            false
+        }
+    }
+}
+
 // Takes a chunk in and writes its answers, until a write fails.
 pub fn take_in(
+    rt: &HostRuntime,
     held: Held,
     keys: &mut [u64],
     rests: &mut [u64],
     line: &mut [u8],
     chunk: &[u8],
     out: &mut [u8],
+    unread: &mut bool,
 ) -> Intake
     requires { BetweenReads held keys.old rests.old line.old out.old }
     ensures ready { BetweenReads result.held keys.new rests.new line.new out.new }
@@ -115,10 +131,10 @@ pub fn take_in(
     let mut held = held;
     let mut taken: usize = 0;
     while taken < chunk.len() {
-        let fed = feed(held, keys, rests, line, chunk, taken, out);
+        let fed = feed(rt, held, keys, rests, line, chunk, taken, out);
         held = fed.held;
         taken = fed.taken;
-        if io::write_all(STDOUT_FILENO, &out[..fed.wrote]) {
+        if put(rt, &out[..fed.wrote], unread) {
             continue;
         }
         return Intake { held, wrote: false };
@@ -127,13 +143,20 @@ pub fn take_in(
 }
 
 // Runs the line that is held when the input has ended. Gives how many bytes its answer takes at the start of the lent bytes.
-pub fn finish(held: Held, keys: &mut [u64], rests: &mut [u64], line: &[u8], out: &mut [u8]) -> usize
+pub fn finish(
+    rt: &HostRuntime,
+    held: Held,
+    keys: &mut [u64],
+    rests: &mut [u64],
+    line: &[u8],
+    out: &mut [u8],
+) -> usize
     requires { Reached held keys.old rests.old line.now out.old }
     ensures { Finished (script_in held keys.old rests.old line.now) out.new result }
 {
     if held.count == 0 {
         return 0;
     }
-    let ran = planner::run_line(held.desk, keys, rests, &line[..held.count], out, 0);
+    let ran = planner::run_line(rt, held.desk, keys, rests, &line[..held.count], out, 0);
     ran.next
 }

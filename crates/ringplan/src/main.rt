@@ -1,4 +1,7 @@
 // The planner's program: it runs lines from standard input and writes the answers to standard output.
+
+#![tactic(auto)]
+
 mod input;
 
 ghost use Rattle.std.specs.Prelude.{◌≡◌, ◌≤◌, length, replicate};
@@ -8,9 +11,10 @@ ghost use Rattle.ringplan.specs.Plan.{held_room, BetweenReads, script_in};
 ghost use Rattle.ringplan.specs.Turn.{Reached, ReadOnce};
 
 use answer_room::LINE_ROOM;
-use input::{HELD_ROOM, Held};
-use libc::{STDERR_FILENO, STDIN_FILENO, STDOUT_FILENO};
+use input::{HELD_ROOM, Held, put};
 use limits::MOST_CIRCUITS;
+use std::io::Read;
+use std::process::ExitCode;
 
 // The bytes that answers are collected in: room for one of the most bytes and others before it.
 const OUT_ROOM: usize = 2 * LINE_ROOM;
@@ -18,8 +22,11 @@ const OUT_ROOM: usize = 2 * LINE_ROOM;
 // The bytes of one read at most.
 const READ_SIZE: usize = 1024;
 
+// The status of a program that the system ends since nobody reads what it writes. Rattle has it run on, so that it ends itself.
+const UNREAD: u8 = 128 + 13;
+
 // What is to be done after a read.
-#[derive(Drop)]
+#[derive(Clone, Copy)]
 enum Next {
     Read,
     Finish,
@@ -27,41 +34,53 @@ enum Next {
 }
 
 // What is held after a read, and what is next.
-#[derive(Drop)]
+#[derive(Clone, Copy)]
 struct Turn {
     held: Held,
     next: Next,
 }
 
+// Says on standard error what failed. Where nobody hears it, nothing is said.
+fn say(rt: &HostRuntime, line: &[u8]) {
+    let _ = rt.stderr().write_all(line);
+}
+
+// Says that an answer was not written, where somebody may want to know.
+fn say_unwritten(rt: &HostRuntime, unread: bool) {
+    if !unread {
+        say(rt, b"ringplan: write failed\n");
+    }
+}
+
 // Reads once, runs the lines that ended and writes their answers. The input ends where there is nothing to read.
 fn read_once(
+    rt: &HostRuntime,
     held: Held,
     keys: &mut [u64],
     rests: &mut [u64],
     line: &mut [u8],
     out: &mut [u8],
+    unread: &mut bool,
 ) -> Turn
     requires { Reached held keys.old rests.old line.old out.old }
     ensures ready { BetweenReads result.held keys.new rests.new line.new out.new }
     ensures read { ReadOnce (script_in held keys.old rests.old line.old) (script_in result.held keys.new rests.new line.new) result.next }
 {
     let mut buffer = [0u8; READ_SIZE];
-    let got = libc::read(STDIN_FILENO, &mut buffer);
-    if got < 0 {
-        io::write_all(STDERR_FILENO, b"ringplan: read failed\n");
+    let Ok(count) = rt.stdin().read(&mut buffer) else {
+        say(rt, b"ringplan: read failed\n");
         return Turn {
             held,
             next: Next::Stop,
         };
-    }
-    let count = io::count(got, &buffer);
+    };
     if count == 0 {
         return Turn {
             held,
             next: Next::Finish,
         };
     }
-    let fed = input::take_in(held, keys, rests, line, &buffer[..count], out);
+    let fed = input::take_in(rt, held, keys, rests, line, &buffer[..count], out, unread);
     let held = fed.held;
     if fed.wrote {
         return Turn {
@@ -69,7 +88,7 @@ fn read_once(
             next: Next::Read,
         };
     }
-    io::write_all(STDERR_FILENO, b"ringplan: write failed\n");
+    say_unwritten(rt, *unread);
     Turn {
         held,
         next: Next::Stop,
@@ -77,22 +96,37 @@ fn read_once(
 }
 
 // Runs the line that is held when the input has ended, and gives whether its answer was written.
-fn end_input(held: Held, keys: &mut [u64], rests: &mut [u64], line: &[u8], out: &mut [u8]) -> bool
+fn end_input(
+    rt: &HostRuntime,
+    held: Held,
+    keys: &mut [u64],
+    rests: &mut [u64],
+    line: &[u8],
+    out: &mut [u8],
+    unread: &mut bool,
+) -> bool
     requires { Reached held keys.old rests.old line.now out.old }
 {
-    let wrote = input::finish(held, keys, rests, line, out);
-    io::write_all(STDOUT_FILENO, &out[..wrote])
+    let wrote = input::finish(rt, held, keys, rests, line, out);
+    put(rt, &out[..wrote], unread)
 }
 
 // Reads to the end of the input. A proved loop has to end, and nothing says that the input does: it counts its reads down from a
 // number that no run uses up.
-fn run(keys: &mut [u64], rests: &mut [u64], line: &mut [u8], out: &mut [u8])
+fn run(
+    rt: &HostRuntime,
+    keys: &mut [u64],
+    rests: &mut [u64],
+    line: &mut [u8],
+    out: &mut [u8],
+    unread: &mut bool,
+)
     requires { (keys.old ≡ replicate most_circuits 0) × (rests.old ≡ replicate most_circuits 0) × (held_room ≤ length line.old) × (line_room ≤ length out.old) }
 {
     let mut held = input::start();
     let mut reads = u64::MAX;
     while reads > 0 {
-        let turn = read_once(held, keys, rests, line, out);
+        let turn = read_once(rt, held, keys, rests, line, out, unread);
         held = turn.held;
         let next = turn.next;
         match next {
@@ -101,8 +135,8 @@ fn run(keys: &mut [u64], rests: &mut [u64], line: &mut [u8], out: &mut [u8])
                 continue;
             }
             Next::Finish => {
-                if !end_input(held, keys, rests, line, out) {
-                    io::write_all(STDERR_FILENO, b"ringplan: write failed\n");
+                if !end_input(rt, held, keys, rests, line, out, unread) {
+                    say_unwritten(rt, *unread);
                 }
                 return;
             }
@@ -111,10 +145,16 @@ fn run(keys: &mut [u64], rests: &mut [u64], line: &mut [u8], out: &mut [u8])
     }
 }
 
-fn main() {
+fn main(rt: HostRuntime) -> ExitCode {
+    let mut unread = false;
     let mut keys = [0u64; MOST_CIRCUITS];
     let mut rests = [0u64; MOST_CIRCUITS];
     let mut line = [0u8; HELD_ROOM];
     let mut out = [0u8; OUT_ROOM];
-    run(&mut keys, &mut rests, &mut line, &mut out);
+    run(&rt, &mut keys, &mut rests, &mut line, &mut out, &mut unread);
+    if unread {
+        ExitCode::from(UNREAD)
+    } else {
+        ExitCode::SUCCESS
+    }
 }

@@ -3,7 +3,7 @@
 use Prim.Native.Nat.{ℕ, ◌≤◌, ◌<◌}
 use mathlib.Core.Path.{◌≡◌, refl, sym, subst, ◌∙◌}
 use mathlib.Core.Logic.{◌↔◌}
-use mathlib.Core.Bool.{Bool, true, false, not, ◌&&◌}
+use mathlib.Core.Bool.{Bool, true, not, ◌&&◌}
 use mathlib.Core.List.{List, [], ◌∷◌, map}
 use native.Mathlib.Omega.{arith}
 use lib.Dec.{eqb, ltb}
@@ -154,13 +154,23 @@ list_same : (xs : List ℕ) → same_list xs xs ≡ true
 list_same [] = refl
 list_same (x ∷ xs) = and_both _ _ (eq-eqb x x refl) (list_same xs)
 
+-- two rosters with the same entries have the same count, keys and rests; and a roster has its own
+same_parts : (a b : Roster) → same_entries a b ≡ true → (a.heading.count ≡ b.heading.count) × (a.keys ≡ b.keys) × (a.rests ≡ b.rests)
+same_parts a b e =
+    let counted = and_left (eqb a.heading.count b.heading.count) (same_list a.keys b.keys) (and_left _ (same_list a.rests b.rests) e) in
+    let keyed = and_right (eqb a.heading.count b.heading.count) (same_list a.keys b.keys) (and_left _ (same_list a.rests b.rests) e) in
+    let rested = and_right (eqb a.heading.count b.heading.count && same_list a.keys b.keys) (same_list a.rests b.rests) e in
+    (eqb-true _ _ counted, same_list_lem a.keys b.keys keyed, same_list_lem a.rests b.rests rested)
+
+same_self : (a : Roster) → same_entries a a ≡ true
+same_self a =
+    and_both _ _ (and_both _ _ (eq-eqb a.heading.count a.heading.count refl) (list_same a.keys)) (list_same a.rests)
+
 same_entries_lem : (r : Roster) → same_entries (arranged (table_of r)) r ≡ true → arranged (table_of r) ≡ r
 unfolding table_of arranged
 same_entries_lem r e =
-    let n = eqb-true _ _ (and_left _ _ (and_left _ _ e)) in
-    let k = same_list_lem _ _ (and_right (eqb (arranged (table_of r)).heading.count r.heading.count) _ (and_left _ _ e)) in
-    let s = same_list_lem (arranged (table_of r)).rests r.rests (and_right (eqb (arranged (table_of r)).heading.count r.heading.count && same_list (arranged (table_of r)).keys r.keys) _ e) in
-    λ i. record { keys = k i; rests = s i; heading = record { ports = r.heading.ports; nodes = r.heading.nodes; count = n i } }
+    let same = same_parts (arranged (table_of r)) r e in
+    λ i. record { keys = same.1 i; rests = same.2 i; heading = record { ports = r.heading.ports; nodes = r.heading.nodes; count = same.0 i } }
 
 -- 02, E7: "there and back gives it again": a roster that stands, made a table and arranged again, is that roster
 pub back_and_there : (r : Roster) → stands r ≡ true → arranged (table_of r) ≡ r
@@ -181,7 +191,7 @@ pub arranged_stands : (t : RingTable) → meets_rules t ≡ true → Typed t.cha
 unfolding stands
 arranged_stands t meets typed =
     subst (λ (u : RingTable). (meets_rules u && same_entries (arranged u) (arranged t)) ≡ true) (sym (there_and_back_lem t meets typed))
-    (and_both _ _ meets (and_both _ _ (and_both _ _ (eq-eqb (arranged t).heading.count (arranged t).heading.count refl) (list_same (arranged t).keys)) (list_same (arranged t).rests)))
+    (and_both _ _ meets (same_self (arranged t)))
 
 -- 02, E7: "An arrangement that no old table gives is met by 22.": a roster stands exactly where some table that meets the ring rules gives it
 pub stands_exactly : (r : Roster) → (stands r ≡ true) ↔ Gives r

@@ -54,7 +54,7 @@ module _ (t : RingTable) (meets : meets_rules t ≡ true) where
     pub made_back : (stands made ≡ true) × (table_of made ≡ t)
     made_back = rw made_arranged (arranged_stands t meets typed, there_and_back_lem t meets typed)
 
--- for `search (needs, making)`
+-- for `search (rules, making)`
 pub ruleset making = (blank_lists, room_for_all, numbers_apart, count_byte)
 
 module _ (t : RingTable) (m : Bool) (is : m ≡ meets_rules t) where
@@ -81,7 +81,7 @@ module _ (t : RingTable) (m : Bool) (is : m ≡ meets_rules t) where
   pub built_granted_0 : not m ≡ false → verdict_answer granted ≡ answer_by ((22 when not (meets_rules t)) ∷ []) []
   built_granted_0 h = rw (← is, not-false m h)
 
--- for `search (needs, building)`
+-- for `search (rules, building)`
 pub ruleset building = (built_refused, built_refused_22, built_meets, built_granted, built_granted_0)
 
 -- two lists are equal from position i on
@@ -108,7 +108,7 @@ module _ (a b : List ℕ) (i : ℕ) (h : Alike a b i) (l : i < length a) where
 pub alike_end : (a b : List ℕ) (i : ℕ) → Alike a b i → length a ≤ i → true ≡ same_list a b
 alike_end a b i h l = rw (h.rest, drop_of_length-le a {i = i} l, drop_of_length-le b {i = i} (omega (arith, h.long)))
 
--- for `search (needs, comparing)`
+-- for `search (rules, comparing)`
 pub ruleset comparing = (alike_start, alike_here, alike_differ, alike_next, alike_end)
 
 module _ (a b : Roster) (n : Bool) (counts : n ≡ eqb a.heading.count b.heading.count) where
@@ -126,7 +126,7 @@ module _ (a b : Roster) (n : Bool) (counts : n ≡ eqb a.heading.count b.heading
 pub same_long : (a b : List ℕ) → length a ≡ most_circuits → length b ≡ most_circuits → length a ≡ length b
 same_long a b e f = e ∙ sym f
 
--- for `search (needs, sameness)`
+-- for `search (rules, sameness)`
 pub ruleset sameness = (same_long, entries_counts, entries_keys, entries_rests)
 
 module _ (r : Roster) where
@@ -156,7 +156,7 @@ module _ (r : Roster) where
     unfolding stands
     stands_same b o h e f = rw (← same, ← is, not-false m h, ← e) f
 
--- for `search (needs, standing)`
+-- for `search (rules, standing)`
 pub ruleset standing = (stands_many, stands_broken, stands_meets, stands_same)
 
 module _ (r : Roster) (m : Bool) (is : m ≡ stands r) where
@@ -190,5 +190,5 @@ pub table_read : (r : Roster) (chs : Channels) → chs ≡ places_of r.keys r.re
 unfolding table_of
 table_read r chs e = rw e
 
--- for `search (needs, tabling)`
+-- for `search (rules, tabling)`
 pub ruleset tabling = (lent_within, table_refused, table_refused_22, table_most, table_granted, table_granted_0, table_read)

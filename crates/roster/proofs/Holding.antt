@@ -44,7 +44,7 @@ clear_end l₀ l i h k = let e : i ≡ length l₀ = omega (arith, h.long, h.wit
 pub clear_long : (l₀ l : List ℕ) (i : ℕ) → Cleared l₀ l i → length l ≡ length l₀
 clear_long l₀ l i h = h.long
 
--- for `search (needs, clearing)`
+-- for `search (rules, clearing)`
 pub ruleset clearing = (clear_start, clear_next, clear_end, clear_long)
 
 -- lists of zeros of the length of a roster have no entry
@@ -66,7 +66,7 @@ module _ (t : RingTable) (meets : meets_rules t ≡ true) (keys rests : List ℕ
   pub hold_rests : (r₀ : List ℕ) → length r₀ ≡ most_circuits → length rests ≡ length r₀
   hold_rests r₀ e = (lists_room (entries t.channels) keys rests count h).1 ∙ sym e
 
--- for `search (needs, holding)`
+-- for `search (rules, holding)`
 pub ruleset holding = (room_for_all, numbers_apart, cleared_lists, hold_byte, hold_table, hold_keys, hold_rests)
 
 pub read_table_lem : (h : Heading) (keys rests : List ℕ) (chs : Channels) → chs ≡ places_of keys rests h.count

@@ -1,5 +1,7 @@
 // The roster of a ring: its circuits by source node and then by number, each with its place. Built from a table, and back.
 
+#![tactic(auto)]
+
 mod build;
 mod held;
 mod lists;
@@ -13,7 +15,7 @@ pub use lists::{file, file_all, places_of};
 use refusals::Verdict;
 
 // The ports of each node (those beyond the last zero), the number of nodes, and how many circuits the roster has.
-#[derive(Drop)]
+#[derive(Clone, Copy)]
 pub struct Heading {
     pub ports: [u8; PORT_FIELDS],
     pub nodes: u8,
@@ -21,7 +23,7 @@ pub struct Heading {
 }
 
 // The circuits of a ring by source node and then by number: an entry is a key and a rest, and the room after the last is 0.
-#[derive(Drop)]
+#[derive(Clone, Copy)]
 pub struct Roster {
     pub keys: [u64; MOST_CIRCUITS],
     pub rests: [u64; MOST_CIRCUITS],
@@ -29,7 +31,7 @@ pub struct Roster {
 }
 
 // The roster built from a table, beside the verdict.
-#[derive(Drop)]
+#[derive(Clone, Copy)]
 pub struct Built {
     pub roster: Roster,
     pub verdict: Verdict,

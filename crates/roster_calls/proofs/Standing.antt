@@ -48,5 +48,5 @@ tested r b is h = sym is ∙ not-false b h
 pub untested : (r : Roster) (b : Bool) → b ≡ stands r → not b ≡ true → stands r ≡ false
 untested r b is h = sym is ∙ not-true b h
 
--- for `search (needs, standing)`
+-- for `search (rules, standing)`
 pub ruleset standing = (roster_holds, tested, untested)

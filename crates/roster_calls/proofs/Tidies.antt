@@ -89,5 +89,5 @@ module _ (r : Roster) (lent lent' : List Move) (f : lent' ≡ written_all lent (
       tidied : tidied_table (tidy_roster r lent) ≡ tidy_of (table_of r) lent
       tidied = λ i. record { table = (keeps s).back i; answer = (is i).tidied.answer }
 
--- for `search (needs, tidying)`
+-- for `search (rules, tidying)`
 pub ruleset tidying = (stands_most, tidy_meets, tidied_meets, tested, untested)

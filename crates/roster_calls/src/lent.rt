@@ -10,7 +10,7 @@ ghost use Rattle.roster_calls.specs.Demand3.{Demand3HeldLent};
 ghost use Rattle.roster_calls.specs.Tidies.{TidiesHeldLent};
 
 use crate::opening::decide;
-use crate::tidying::decide_tidy;
+use crate::tidyings::decide_tidy;
 use crate::{Opened, Tidied};
 use lightpath::Circuit;
 use moves::Move;

@@ -100,5 +100,5 @@ module _ (r : Roster) (l : List ℕ) where
   unfolding report_roster report_roster_bytes
   report_refused f = rw f (refl, (refl, refl))
 
--- for `search (needs, forming)`
+-- for `search (rules, forming)`
 pub ruleset forming = (accepted_meets, stands_most, table_meets, tested, untested)

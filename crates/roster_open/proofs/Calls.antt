@@ -1,7 +1,7 @@
 -- An opening and a closing in place: the lists hold the table after it, and the answer is that of the old arrangement. Assumes nothing.
 use Prim.Native.Nat.{ℕ, ◌+◌, ◌-◌, ◌≤◌, ◌<◌}
 use mathlib.Core.Path.{◌≡◌, refl, sym, ap, subst, ◌∙◌}
-use mathlib.Core.Bool.{Bool, true, false, not}
+use mathlib.Core.Bool.{true, false, not}
 use mathlib.Core.List.{List, [], ◌∷◌}
 use native.Mathlib.Omega.{arith}
 use lib.Dec.{eqb, ltb}
@@ -302,14 +302,14 @@ pub refused_in : (h : Heading) (r : Refusal) (ms : Moves) → ms ≡ none
     → ◌≡◌ {A = OpenedIn} (record { heading = h; answer = not_opened r; moves = ms }) (record { heading = h; answer = not_opened r; moves = none })
 refused_in h r ms e = rw e
 
--- for `search (needs, planning)`
+-- for `search (rules, planning)`
 pub ruleset planning = (built_ready, built_joined, built_unlit, built_plans)
 
--- for `search (needs, opening)`
+-- for `search (rules, opening)`
 pub ruleset opening = (open_named, open_served, open_refused)
 
--- for `search (needs, placed)`
+-- for `search (rules, placed)`
 pub ruleset placed = (within_keys, within_rests, placed_ready, opened_there, moved_listed, moved_room, moved_byte, opened_answer)
 
--- for `search (needs, closing)`
+-- for `search (rules, closing)`
 pub ruleset closing = (within_keys, within_rests, closed_missed, closed_found)

@@ -129,7 +129,7 @@ module _ (keys rests : List ℕ) (count : ℕ) (m : Move) (at : ℕ) (is : at �
           let place = taken_number m.number es keys rests count at h is in
           rw (others m es (found_none m.number es (omega (arith, place, h.counted)))) h
 
--- for `search (needs, replacing)`
+-- for `search (rules, replacing)`
 pub ruleset replacing = (replace_at, replace_none)
 
 -- several, one after the other
@@ -172,7 +172,7 @@ module _ (keys rests : List ℕ) (count : ℕ) (a : Moves) where
           none zero = refl
           none (suc k) = refl
 
--- for `search (needs, replacing_all)`
+-- for `search (rules, replacing_all)`
 pub ruleset replacing_all = (replaces_none, replaces_one, replaces_two, replaces_three)
 
 map_without : {B : Type 0} (f : Standing → B) (i : ℕ) (es : List Standing) → map f (without_at i es) ≡ take i (map f es) ++ drop (suc i) (map f es)

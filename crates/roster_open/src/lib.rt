@@ -1,5 +1,7 @@
 // Opening, placing and closing circuits on the entries of a roster, in place: no table is copied, and none is built but for step 3.
 
+#![tactic(auto)]
+
 mod close;
 mod entries_moved;
 mod open;
@@ -12,7 +14,7 @@ use ring::Opening;
 use roster::Heading;
 
 // The heading after an opening, beside the answer and the moves.
-#[derive(Drop)]
+#[derive(Clone, Copy)]
 pub struct OpenedIn {
     pub heading: Heading,
     pub answer: Opening,
@@ -20,7 +22,7 @@ pub struct OpenedIn {
 }
 
 // The heading after a closing, beside the verdict.
-#[derive(Drop)]
+#[derive(Clone, Copy)]
 pub struct ClosedIn {
     pub heading: Heading,
     pub verdict: Verdict,

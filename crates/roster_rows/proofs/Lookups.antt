@@ -264,5 +264,5 @@ module _ (r : Roster) (node : ℕ) where
         unfolding circuit_of_roster
         circuit_there h m f = circuit_is n (found m) (ap found f ∙ sym (number_there r s node n small at e h) ∙ rw (s, inside))
 
--- for `search (needs, looking)`
+-- for `search (rules, looking)`
 pub ruleset looking = (keys_rise, row_order, row_keyed, row_rested, row_scaled, row_same, row_few, number_index, said, not-true, not-false)

@@ -1,6 +1,8 @@
 // Lookups by node on a roster, for a host: the circuits that a node sends, and one of them by its number. A call takes the roster whole, and
 // a look changes nothing.
 
+#![tactic(auto)]
+
 ghost use Rattle.std.specs.Prelude.{◌≡◌, true, [], ◌≤◌, length};
 ghost use Rattle.limits.specs.Limits.{most_ports};
 ghost use Rattle.refusals.specs.Answer.{answer_by};
@@ -24,7 +26,7 @@ const BLANK: Standing = Standing {
 
 // The circuits that a node sends, by rising number, each with its place: the first `count` of the list. Those after them are blank, and all of
 // a refused lookup.
-#[derive(Drop)]
+#[derive(Clone, Copy)]
 pub struct Sent {
     pub list: [Standing; MOST_SENT],
     pub count: usize,
@@ -32,7 +34,7 @@ pub struct Sent {
 }
 
 // The circuit of a number that a node sends, with its place; or that it sends none; or why that is not asked.
-#[derive(Drop)]
+#[derive(Clone, Copy)]
 pub enum Lookup {
     Found(Standing),
     Nothing,

@@ -1,4 +1,4 @@
--- Whether the new circuit can join that of an entry, by the tests that the code makes. For `search (needs, joined)`. Assumes nothing.
+-- Whether the new circuit can join that of an entry, by the tests that the code makes. For `search (rules, joined)`. Assumes nothing.
 use Prim.Native.Nat.{ℕ, ◌≤◌, ◌<◌}
 use mathlib.Core.Path.{◌≡◌, sym, ◌∙◌}
 use mathlib.Core.Bool.{Bool, true, false, not, and-false}

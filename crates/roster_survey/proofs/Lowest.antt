@@ -1,5 +1,5 @@
 -- The pass over the entries that finds the one to join: the lowest place of those that pass a test, whatever their order, is the first
--- place that passes. `search (needs, finding)` finds its steps. Assumes nothing.
+-- place that passes. `search (rules, finding)` finds its steps. Assumes nothing.
 use Prim.Native.Nat.{ℕ, ◌+◌, ◌≤◌, ◌<◌}
 use mathlib.Core.Path.{◌≡◌, refl, sym, ◌∙◌}
 use mathlib.Core.Bool.{Bool, true, false, ◌&&◌, true≢false}

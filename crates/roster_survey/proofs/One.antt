@@ -53,5 +53,5 @@ module _ (p : ℕ) (l : p < place_count) where
           let m : p % 64 ≡ p - 64 = omega arith in
           rw (le-ltb p 64 (omega arith), o, m, mul-one (1 * 2 ^ (p - 64) % 2 ^ 64), shifted (p - 64) (omega arith)) (words _ _ _ _ (omega arith) (omega arith))
 
--- for `search (needs, one)`
+-- for `search (rules, one)`
 pub ruleset one = (one_fits, one_within, one_words)

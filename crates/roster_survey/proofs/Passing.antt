@@ -1,4 +1,4 @@
--- The pass over the entries that counts them and lights their places. `search (needs, entry)` and `search (needs, passing)` find its steps.
+-- The pass over the entries that counts them and lights their places. `search (rules, entry)` and `search (rules, passing)` find its steps.
 -- Assumes nothing.
 use Prim.Native.Nat.{ℕ, zero, suc, ◌+◌, ◌≤◌, ◌<◌}
 use mathlib.Core.Path.{◌≡◌, refl, ap, ◌∙◌}

@@ -1,6 +1,8 @@
 // One pass over the entries of a roster for a new circuit: what its ports and number are tested by, and what steps 1 and 2 look for, as the
 // pass over the places of a table gives it. A second pass finds the circuit to join, since only then it is known which places are shared.
 
+#![tactic(auto)]
+
 ghost use Rattle.std.specs.Prelude.{◌≡◌, ◌<◌, take};
 ghost use Rattle.limits.specs.Limits.{place_count};
 ghost use Rattle.lightpath.specs.Circuit.{adjacent};
@@ -51,7 +53,7 @@ fn one_place(place: usize) -> Lit
 
 // What was seen of some entries: how many have the new circuit's number and how many go to its destination; the lit places, and those of
 // them that two circuits share.
-#[derive(Drop)]
+#[derive(Clone, Copy)]
 struct Pass {
     numbered: usize,
     received: usize,
@@ -123,7 +125,7 @@ fn can_join(nodes: u8, circuit: Circuit, shared: Lit, key: u64, rest: u64) -> bo
 }
 
 // The lowest place found at which a circuit can be joined, or the limit, and the position of its entry.
-#[derive(Drop)]
+#[derive(Clone, Copy)]
 struct Nearest {
     place: usize,
     position: usize,

@@ -1,4 +1,4 @@
--- What the search for the next round finds, from what its parts gave, as they stand in the record of a need, so that `search (needs, finding)`
+-- What the search for the next round finds, from what its parts gave, as they stand in the record of a need, so that `search (rules, finding)`
 -- finds these laws. Assumes nothing.
 use Prim.Native.Nat.{ℕ, suc, ◌≤◌}
 use mathlib.Core.Path.{◌≡◌, refl, sym, ◌∙◌}

@@ -1,5 +1,5 @@
 -- What each function that joins a pair made is the round's. Each law takes what the calls gave and what the branches tested as they stand in
--- the record of a need, so that `search (needs, made)` finds them. Assumes nothing.
+-- the record of a need, so that `search (rules, made)` finds them. Assumes nothing.
 use Prim.Native.Nat.{ℕ, ◌<◌}
 use mathlib.Core.Path.{◌≡◌, refl, sym, ◌∙◌}
 use mathlib.Core.Bool.{Bool, true, false}

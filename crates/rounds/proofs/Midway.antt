@@ -1,5 +1,5 @@
 -- A tidying midway: what is done so far, and what the rounds left make of it. Each law takes what the calls gave as it stands in the record of
--- a need, so that `search (needs, midway)` finds it. Assumes nothing.
+-- a need, so that `search (rules, midway)` finds it. Assumes nothing.
 use Prim.Native.Nat.{ℕ, suc, ◌+◌, ◌-◌, ◌*◌, ◌≤◌, ◌<◌, zero-le}
 use mathlib.Core.Path.{◌≡◌, refl, sym, ap, subst, ◌∙◌}
 use mathlib.Core.Bool.{Bool, true, false}

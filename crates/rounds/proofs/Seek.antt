@@ -1,5 +1,5 @@
 -- The search for the first pair that can be joined: how far it is, and each step of its loops. Each law takes a callee's answer and the
--- branch's test as they stand in the record of a need, so that `search (needs, seek)` finds them. Assumes nothing.
+-- branch's test as they stand in the record of a need, so that `search (rules, seek)` finds them. Assumes nothing.
 use Prim.Native.Nat.{ℕ, zero, suc, ◌+◌, ◌≤◌, ◌<◌}
 use mathlib.Core.Path.{◌≡◌, refl, sym, ap, subst, ◌∙◌}
 use mathlib.Core.Bool.{Bool, true, false, ◌&&◌, ◌||◌, not, true≢false}

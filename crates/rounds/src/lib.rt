@@ -1,5 +1,7 @@
 // A tidying by value: rounds, each of which joins the first pair of nonsharing circuits that can be joined, until none can be.
 
+#![tactic(auto)]
+
 ghost use Rattle.std.specs.Prelude.{◌≡◌, ◌<◌, ◌≤◌};
 ghost use Rattle.limits.specs.Limits.{place_count};
 ghost use Rattle.tidying.specs.Tidying.{tidy_up};
@@ -15,14 +17,14 @@ use limits::PLACE_COUNT;
 use moves::{MoveList, Moves};
 
 // The lowest unlit place of each direction, or the limit where there is none.
-#[derive(Drop)]
+#[derive(Clone, Copy)]
 pub struct Room {
     pub clockwise: usize,
     pub counterclockwise: usize,
 }
 
 // A pair that can be joined, where there is one.
-#[derive(Drop)]
+#[derive(Clone, Copy)]
 pub struct Hit {
     pub found: bool,
     pub first: Standing,
@@ -30,21 +32,21 @@ pub struct Hit {
 }
 
 // The pair of the next round, and the room that there is for it.
-#[derive(Drop)]
+#[derive(Clone, Copy)]
 pub struct Next {
     pub hit: Hit,
     pub room: Room,
 }
 
 // What joining a pair does: which places get what, and the moves.
-#[derive(Drop)]
+#[derive(Clone, Copy)]
 pub struct Joined {
     pub changes: Changes,
     pub moves: Moves,
 }
 
 // The places after some rounds, the number of rounds, and the moves in their order.
-#[derive(Drop)]
+#[derive(Clone, Copy)]
 pub struct TidiedPlaces {
     pub channels: [Channel; PLACE_COUNT],
     pub rounds: u8,

@@ -1,5 +1,7 @@
 // What is printed of a node's row: the number of circuits that it sends, or receives, and a line for each.
 
+#![tactic(auto)]
+
 ghost use Rattle.std.specs.Prelude.{◌≡◌, ◌+◌, ◌≤◌, length};
 ghost use Rattle.limits.specs.Limits.{most_ports};
 ghost use Rattle.entries.specs.Entry.{entry_of};

@@ -1,5 +1,7 @@
 // The numbers of the picture's rows: for each link or node the one that stands in its column.
 
+#![tactic(auto)]
+
 ghost use Rattle.std.specs.Prelude.{◌≡◌, true, ◌-◌, ◌*◌, ◌/◌, ◌%◌, ◌≤◌, length};
 ghost use Rattle.basis.specs.Count.{tally};
 ghost use Rattle.lightpath.specs.Circuit.{next};
@@ -20,7 +22,7 @@ use slots::Slot;
 
 // What a row shows, in the picture's order: the nodes at which the links begin, and those at which they end, clockwise; what runs at a
 // place; the loads each way round; the nodes, their free transmitters and their free receivers.
-#[derive(Drop)]
+#[derive(Clone, Copy)]
 pub enum Row {
     From,
     To,
@@ -33,7 +35,7 @@ pub enum Row {
 }
 
 // An end of a circuit: its source, which takes a transmitter, or its destination, which takes a receiver.
-#[derive(Drop)]
+#[derive(Clone, Copy)]
 pub enum End {
     Source,
     Destination,

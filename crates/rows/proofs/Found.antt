@@ -1,4 +1,4 @@
--- What `row_of` and `position` find among rising keys. `search (needs, found)` finds their answers. Assumes nothing.
+-- What `row_of` and `position` find among rising keys. `search (rules, found)` finds their answers. Assumes nothing.
 use Prim.Native.Nat.{ℕ, suc, ◌+◌, ◌^◌, ◌≤◌, ◌<◌}
 use mathlib.Core.Path.{◌≡◌, sym, ap, ◌∙◌}
 use mathlib.Core.Logic.{◌≢◌}

@@ -1,4 +1,4 @@
--- The row of a node where keys and rests hold a table: the entries of the node, as many as it sends. Assumes nothing. `search (needs, held)`
+-- The row of a node where keys and rests hold a table: the entries of the node, as many as it sends. Assumes nothing. `search (rules, held)`
 -- finds what a caller that lends the row has to show.
 use Prim.Native.Nat.{ℕ, zero, suc, ◌+◌, ◌-◌, ◌≤◌}
 use mathlib.Core.Path.{◌≡◌, refl, sym, ap, ◌∙◌}

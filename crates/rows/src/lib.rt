@@ -1,5 +1,7 @@
 // The rows of a roster: where the circuits of a node stand, found in a few steps.
 
+#![tactic(auto)]
+
 ghost use Rattle.std.specs.Prelude.{◌≡◌, ◌≤◌, length, take};
 ghost use Rattle.entries.specs.Lists.{Rising};
 ghost use Rattle.rows.specs.Row.{row_in, position_in};
@@ -7,7 +9,7 @@ ghost use Rattle.rows.specs.Row.{row_in, position_in};
 use entries::NEXT_ROW;
 
 // The row of a node: from the entry at `start` to the one before `end`.
-#[derive(Drop)]
+#[derive(Clone, Copy)]
 pub struct Row {
     pub start: usize,
     pub end: usize,

@@ -1,4 +1,4 @@
--- The loops that set numbers side by side and compare each with each later one. `search (needs, apart)` finds their steps. Assumes nothing.
+-- The loops that set numbers side by side and compare each with each later one. `search (rules, apart)` finds their steps. Assumes nothing.
 use Prim.Native.Nat.{ℕ, zero, suc, ◌+◌, ◌≤◌, ◌<◌, suc-le-suc}
 use mathlib.Core.Path.{◌≡◌, refl, sym, ap, ◌∙◌}
 use mathlib.Core.Logic.{◌≢◌}

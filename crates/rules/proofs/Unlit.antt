@@ -53,5 +53,5 @@ module _ (m : ℕ) (t : Channels) where
   unfolding none_lit_from
   unlit_all i h l = scan_all dark place_count i h l
 
--- for `search (needs, upper)`
+-- for `search (rules, upper)`
 pub ruleset upper = (unlit_start, unlit_next, unlit_fail, unlit_all)

@@ -1,5 +1,7 @@
 // The ring rules of document 01 as one test, over the pieces of a ring table: its nodes, its port counts and its places.
 
+#![tactic(auto)]
+
 mod numbers;
 mod places;
 mod tallies;

@@ -19,7 +19,7 @@ fn index(node: u8) -> usize
 const BYTE_VALUES: usize = 256;
 
 // How many circuits each node sends and receives.
-#[derive(Drop)]
+#[derive(Clone, Copy)]
 struct PortCounts {
     sent: [u16; BYTE_VALUES],
     received: [u16; BYTE_VALUES],

@@ -1,4 +1,4 @@
--- Saved forms in lent bytes. Assumes nothing. What `form_of` and `read_word_lem` promise.
+-- Saved forms in lent bytes. Assumes nothing. What `form_of` and `read_word` promise.
 use Rattle.std.specs.Prelude.{ℕ, ◌≤◌, ◌≡◌, true, false, List, length, take}
 use Rattle.ring.specs.declared.RingTable.{RingTable}
 use Rattle.form.specs.Form.{form_of, longest_form}

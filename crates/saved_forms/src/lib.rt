@@ -1,5 +1,7 @@
 // Saved forms: read into the desk, whose circuits stand in lent keys and rests, and written from a table.
 
+#![tactic(auto)]
+
 ghost use Rattle.std.specs.Prelude.{◌≡◌, true, ◌*◌, ◌≤◌, length};
 ghost use Rattle.ring.specs.Table.{meets_rules};
 ghost use Rattle.form.specs.Form.{longest_form};
@@ -72,6 +74,7 @@ pub fn take_form(
 
 // `read @PATH`
 pub fn run_read_file(
+    rt: &HostRuntime,
     desk: DeskState,
     keys: &mut [u64],
     rests: &mut [u64],
@@ -83,7 +86,7 @@ pub fn run_read_file(
     ensures { FileAnswered (desk_of desk keys.old rests.old) out.old at keys.new rests.new out.new result }
 {
     let mut form = [0u8; MOST_READ];
-    let read = files::read_file(path, &mut form);
+    let read = files::read_file(rt, path, &mut form);
     match read {
         FileRead::Bytes(count) => take_form(desk, keys, rests, &form[..count], out, at),
         FileRead::Failed => {

@@ -1,4 +1,7 @@
 // A script's bytes as they come: a line is held until it ends, and then run.
+
+#![tactic(auto)]
+
 mod input;
 
 use desk::DeskState;
@@ -10,7 +13,7 @@ use requests::LONGEST_LINE;
 const MOST_HELD: usize = LONGEST_LINE + 1;
 
 // The desk with the keys and rests of its circuits, and the bytes of a line that has not ended.
-#[derive(Drop)]
+#[derive(Clone, Copy)]
 pub struct Session {
     pub keys: [u64; MOST_CIRCUITS],
     pub rests: [u64; MOST_CIRCUITS],
@@ -20,7 +23,7 @@ pub struct Session {
 }
 
 // The session after some bytes, and how many bytes it printed.
-#[derive(Drop)]
+#[derive(Clone, Copy)]
 pub struct Fed {
     pub session: Session,
     pub wrote: usize,

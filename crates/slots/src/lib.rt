@@ -1,12 +1,14 @@
 // What one directed wavelength place holds: nothing, one circuit alone, or two that share it.
 
+#![tactic(auto)]
+
 ghost use Rattle.std.specs.Prelude.{◌≡◌};
 ghost use Rattle.slots.specs.Slot.{is_lit, is_unlit, is_alone, first_of, together, without, holds};
 
 use lightpath::{BLANK_CIRCUIT, Circuit};
 
 // The content of a place: unlit, one circuit alone, or two that share it, the lower number first.
-#[derive(Drop)]
+#[derive(Clone, Copy)]
 pub enum Slot {
     Unlit,
     Alone(Circuit),

@@ -1,7 +1,7 @@
 -- One circuit is taken off and opened again: the records of the opening, after the circuit's own, name each circuit that has moved, and a host
 -- that carries them out has the places after it. Assumes nothing.
-use Prim.Native.Nat.{ℕ, ◌<◌}
-use mathlib.Core.Path.{◌≡◌, refl, sym, ◌∙◌}
+use Prim.Native.Nat.{◌+◌, ℕ, ◌<◌}
+use mathlib.Core.Path.{ap, subst, ◌≡◌, refl, sym, ◌∙◌}
 use mathlib.Core.Logic.{◌≢◌}
 use mathlib.Core.Bool.{true}
 use mathlib.Core.List.{List, [], ◌∷◌}
@@ -89,8 +89,11 @@ module _ (N : ℕ) (ks : List ℕ) (t t₁ t₂ : Channels) (x : Circuit) (p : �
       some = ltb-true 0 (numbered k (circuits t)) l
 
       go : Dec (x.number ≡ k) → records_of k (own_move t x p ∷ ms) ≡ bit (moved_to t t₂ k)
-      go (yes e) = rw (← e) (omega (arith, own_none, bit_eq x.number x.number refl, has_moved))
+      go (yes e) = subst (λ (n : ℕ). records_of n (own_move t x p ∷ ms) ≡ bit (moved_to t t₂ n)) e (own_first ∙ sym has_moved)
         where
+          own_first : records_of x.number (own_move t x p ∷ ms) ≡ 1
+          own_first = ap (λ n. n + records_of x.number ms) (bit_eq x.number x.number refl) ∙ ap (λ n. 1 + n) own_none
+
           has_moved : bit (moved_to t t₂ x.number) ≡ 1
           has_moved =
               let low = stands x.number (omega (arith, second.exact (of_number x.number), bit_eq x.number x.number refl)) in

@@ -96,7 +96,7 @@ module _ (N m : ℕ) (c : Circuit) (p : ℕ) (s : Slot) where
       → record { numbered = v.numbered + k; sent = v.sent + l; received = v.received + n; join = j; lit = w } ≡ pass_with N m c p s v
   seen_lit v r a k l n j w e h x y z b f g = rw (not-false (is_lit s) (unlit_not s ∙ sym e ∙ h), x, y, z, f, b, g)
 
--- for `search (needs, place)`
+-- for `search (rules, place)`
 pub ruleset place = (join_none, join_above, join_alone, seen_dark, seen_lit)
 
 module _ (N m : ℕ) (t : Channels) (c : Circuit) (long : length t ≡ place_count) (low : m ≤ place_count) where
@@ -181,7 +181,7 @@ module _ (N m : ℕ) (t : Channels) (c : Circuit) (long : length t ≡ place_cou
     pub seen_none : m ≤ v.join → made blank_circuit ≡ survey_of N m t c
     seen_none l = is blank_circuit (rw (le-ltb v.join m l) (let e : v.join ≡ m = omega (arith, s.lowest.most) in rw e))
 
--- for `search (needs, seen)`
+-- for `search (rules, seen)`
 pub ruleset seen = (array_length, seen_start, seen_room, seen_next, seen_joined, seen_none)
 
 -- step 2's place by the words: the lowest unlit one of the shorter way, else of the other

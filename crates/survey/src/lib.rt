@@ -1,6 +1,8 @@
 // One pass over the places for a new circuit: what its ports and number are tested by, and what steps 1 and 2 look for. It goes down, so
 // that of two circuits that the new one can join it keeps the lower. Every circuit counts, and only those below the limit are joined.
 
+#![tactic(auto)]
+
 ghost use Rattle.std.specs.Prelude.{◌≡◌, ◌&&◌, ◌<◌, ◌≤◌, ltb};
 ghost use Rattle.basis.specs.Choice.{pick};
 ghost use Rattle.limits.specs.Limits.{place_count};
@@ -15,7 +17,7 @@ use slots::Slot;
 
 // How many circuits have the new one's number, how many its source sends and its destination receives; the one that it can join, with
 // its place, or the limit with a blank circuit; and the lit places.
-#[derive(Drop)]
+#[derive(Clone, Copy)]
 pub struct Survey {
     pub numbered: usize,
     pub sent: usize,
@@ -42,7 +44,7 @@ fn can_join(nodes: u8, limit: usize, circuit: Circuit, place: usize, slot: Slot)
 
 // What was seen of the places above one: the counts, the place of the lowest circuit that the new one can join, or the limit, and the
 // lit places.
-#[derive(Drop)]
+#[derive(Clone, Copy)]
 struct Pass {
     numbered: usize,
     sent: usize,

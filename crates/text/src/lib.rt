@@ -1,4 +1,7 @@
 // Decimal numbers as bytes: written into a lent buffer, and read back.
+
+#![tactic(auto)]
+
 ghost use Rattle.std.specs.Prelude.{◌≡◌, ◌+◌};
 ghost use Rattle.buffer.specs.Put.{Put, Room};
 ghost use Rattle.text.specs.Decimal.{decimal};
@@ -6,7 +9,7 @@ ghost use Rattle.text.specs.Number.{number};
 ghost use Rattle.text.specs.Signed.{signed};
 
 // What a word says: a number, or none.
-#[derive(Drop)]
+#[derive(Clone, Copy)]
 pub enum Number {
     Got(u64),
     Missing,
@@ -48,7 +51,7 @@ const MOST_ABOVE: u64 = i32::MAX as u64;
 const MOST_BELOW: u64 = MOST_ABOVE + 1;
 
 // What a word says as a signed number of 32 bits: one, or none.
-#[derive(Drop)]
+#[derive(Clone, Copy)]
 pub enum Signed {
     Got(i32),
     Missing,

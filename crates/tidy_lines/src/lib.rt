@@ -1,5 +1,7 @@
 // What is printed of a tidying: the number of its rounds and of its moves, and a line for each move.
 
+#![tactic(auto)]
+
 ghost use Rattle.std.specs.Prelude.{◌+◌, ◌≤◌, ◌++◌, length};
 ghost use Rattle.limits.specs.Limits.{tidy_records};
 ghost use Rattle.moves.specs.MoveList.{recorded};

@@ -1,4 +1,7 @@
 // The words of a line, parted by single spaces and found by position: where one ends, whether it is a given one, and the number that it is.
+
+#![tactic(auto)]
+
 ghost use Rattle.std.specs.Prelude.{◌≡◌, ◌+◌, drop};
 ghost use Rattle.words.specs.Split.{same_text, word_index, word_length};
 ghost use Rattle.words.specs.Field.{FieldAt};
@@ -62,7 +65,7 @@ pub fn word_index(word: &[u8], list: &[u8]) -> usize
 }
 
 // What the next word is: a number, and the word's end; or no number, or there is no word.
-#[derive(Drop)]
+#[derive(Clone, Copy)]
 pub enum Field {
     Read(u64, usize),
     Unread,
@@ -84,7 +87,7 @@ pub fn read_field(line: &[u8], at: usize, most: u64) -> Field
 }
 
 // What the next word is as a signed number of 32 bits: one, and the word's end; or none, or there is no word.
-#[derive(Drop)]
+#[derive(Clone, Copy)]
 pub enum SignedField {
     Read(i32, usize),
     Unread,

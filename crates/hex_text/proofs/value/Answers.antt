@@ -1,0 +1,10 @@
+-- `hex_text::value` meets its contract. Assumes nothing.
+use Rattle.std.proofs.Common.{rules}
+use Rattle.hex_text.proofs.OneDigit.{digits}
+use Rattle.hex_text.proofs.value.Goals as goal
+
+pub returns-then-numeral-lt10 : goal.returns-then-numeral-lt10
+returns-then-numeral-lt10 c = search (rules, digits)
+
+pub returns : goal.returns
+returns c = search (rules, digits)

@@ -1,0 +1,17 @@
+-- `requests::parse_details` meets its contract, by the law of a field, used twice. Assumes nothing.
+use borrow.Author.Rules.{rules}
+use Rattle.requests.specs.Details.{parse_details}
+use Rattle.words.proofs.Parse.{parsing}
+use Rattle.requests.proofs.parse_details.Goals as goal
+
+pub returns-in_default : goal.returns-in_default
+unfolding parse_details
+returns-in_default c = search (rules, parsing)
+
+pub returns-in_default-read_field : goal.returns-in_default-read_field
+unfolding parse_details
+returns-in_default-read_field c = search (rules, parsing)
+
+pub returns : goal.returns
+unfolding parse_details
+returns c = search (rules, parsing)

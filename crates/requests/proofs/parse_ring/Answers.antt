@@ -1,0 +1,22 @@
+-- `requests::parse_ring` meets its contract. The loop's invariant: the ports read so far are those of the words up to the position. Assumes nothing.
+use borrow.Author.Rules.{rules}
+use Rattle.requests.specs.Line.{parse_ring}
+use Rattle.words.proofs.Parse.{field_unread}
+use Rattle.requests.proofs.Ports.{porting}
+use Rattle.requests.proofs.parse_ring.Goals as goal
+
+pub returns-in_default : goal.returns-in_default
+unfolding parse_ring
+returns-in_default c = search (rules, field_unread)
+
+pub loop-next-init : goal.loop-next-init
+loop-next-init c = search (rules, porting)
+
+pub returns-in_default-read_field : goal.returns-in_default-read_field
+returns-in_default-read_field c = search (rules, porting)
+
+pub loop-next-preserved : goal.loop-next-preserved
+loop-next-preserved c = search (rules, porting)
+
+pub returns : goal.returns
+returns c = search (rules, porting)

@@ -1,0 +1,1 @@
+-- `ring_bench::run_load` meets its contract. Assumes nothing.

@@ -1,0 +1,13 @@
+-- `roster_open::open_in` meets its contract. Assumes nothing.
+use borrow.Author.Rules.{rules}
+use Rattle.roster_open.proofs.Calls.{opening}
+use Rattle.roster_open.proofs.open.open_in.Goals as goal
+
+pub open_named-requires : goal.open_named-requires
+open_named-requires c = search (rules, opening)
+
+pub returns-in-Granted : goal.returns-in-Granted
+returns-in-Granted c = search (rules, opening)
+
+pub returns-in-Refused : goal.returns-in-Refused
+returns-in-Refused c = search (rules, opening)
