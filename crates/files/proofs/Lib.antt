@@ -1,2 +1,3 @@
 -- The laws of a file's answers.
+mod Kept
 pub mod Naming

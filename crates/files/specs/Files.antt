@@ -1,6 +1,6 @@
 -- What reading and writing a file answers. No contract can say what stands in a file. Assumes nothing.
 -- What `read_file` and `write_file` promise, and what is known of a file by its name.
-use Rattle.std.specs.Prelude.{ℕ, ◌-◌, ◌≤◌, List, length, ◌≡◌, true, false}
+use Rattle.std.specs.Prelude.{ℕ, ◌-◌, ◌≤◌, List, ◌++◌, length, take, ◌≡◌, true, false}
 use Rattle.files.specs.declared.about.About.{About}
 use Rattle.files.specs.declared.FileRead.{FileRead}
 use Rattle.files.specs.declared.FileRead.TheVariants.{Bytes, Failed}
@@ -31,3 +31,11 @@ pub record IsPath (path : List ℕ) : Type 0 where
 pub record Agrees (a : About) : Type 0 where
   pub free : a.free ≡ true → a.found ≡ false
   pub regular : a.regular ≡ true → a.found ≡ true
+
+-- the most bytes that are kept of what std says of an error
+abbrev pub words_room : ℕ
+words_room = 128
+
+-- of a text after what was kept before it, as much is kept as fits
+abbrev pub Kept : List ℕ → List ℕ → List ℕ → Type 0
+Kept old text new = new ≡ take words_room (old ++ text)

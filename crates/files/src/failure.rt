@@ -1,10 +1,12 @@
 // The line that says what failed, and what the system says of why.
 
-ghost use Rattle.std.specs.Prelude.{◌≤◌, length};
+ghost use Rattle.std.specs.Prelude.{◌≡◌, ◌≤◌, ℕ, List, length, take};
 ghost use Rattle.std.specs.Counts.{IsPrefixLen};
+ghost use Rattle.files.specs.Files.{Kept, words_room};
 
 use crate::LONGEST_NAME;
 use std::fmt::Write;
+use std::marker::Model;
 use std::{fmt, io};
 
 // The room of a line: for a path of a line of the program's, which is longer than any name, and what is said of it.
@@ -56,37 +58,46 @@ pub struct Words {
     count: usize,
 }
 
+impl Model for Words {
+    ghost Value = { List ℕ };
+
+    ghost view = { λ words. take words.count words.bytes };
+
+    ghost invariant = { λ words. words.count ≤ words_room };
+}
+
 impl Write for Words {
+    ghost write_str_gives = { Kept };
+
     fn write_str(&mut self, text: &str) -> fmt::Result {
-        for byte in text.as_bytes() {
-            let at = self.count;
-            if at < WORDS_ROOM {
-                self.bytes[at] = *byte;
-                self.count = at + 1;
-            }
-        }
+        let text = text.as_bytes();
+        let fits = text.len().min(WORDS_ROOM - self.count);
+        self.count = buffer::put_text(&mut self.bytes, self.count, &text[..fits]);
         Ok(())
     }
 }
 
 impl Words {
-    pub fn of(error: io::Error) -> Words {
+    pub fn of(error: io::Error) -> Words
+        ensures { length result ≤ words_room }
+    {
         let mut words = Words {
             bytes: [0; WORDS_ROOM],
             count: 0,
         };
         let _ = write!(words, "{error}");
+        // No effect at run time: the proof reads there that the count is within the room.
+        let _ = &words.count;
         words
     }
 
     // The system's words alone: std puts the error's number in brackets after them.
     pub fn text(&self) -> &[u8]
-        ensures { IsPrefixLen (length result.now) self.now.bytes }
+        ensures { result.now ≡ take (length result.now) self.now }
     {
-        let text = &self.bytes[..];
+        let text = &self.bytes[..self.count];
         match text.iter().rposition(|byte| *byte == b'(') {
             Some(at) if at > 0 => &text[..at - 1],
-            _ if self.count <= text.len() => &text[..self.count],
             _ => text,
         }
     }
