@@ -1,12 +1,13 @@
--- Writes, one after another, and a text copied byte by byte. Assumes nothing.
+-- Writes, one after another, and a text copied to its place. Assumes nothing.
 use mathlib.Core.Path.{◌≡◌, refl, sym, ap, ◌∙◌}
-use mathlib.Core.List.{List, [], ◌∷◌, ◌++◌}
-use Prim.Native.Nat.{ℕ, suc, ◌+◌, ◌≤◌, ◌<◌}
+use mathlib.Core.List.{List, [], ◌∷◌, ◌++◌, append_assoc}
+use Prim.Native.Nat.{ℕ, suc, ◌+◌, ◌-◌, ◌≤◌}
 use native.Mathlib.Nat.{add-zero, add-suc, suc-add}
-use native.Mathlib.Numerals.{add-one}
 use native.Mathlib.Omega.{arith}
-use lib.ListN.{length, drop, get_or, set, length-set, length-append, drop_of_length-le}
-use lib.Seq.{sets, length-sets, drop-cons}
+use lib.ListN.{length, take, drop, set, length-append}
+use lib.Seq.{sets, length-sets, drop-drop}
+use Rattle.std.proofs.lemmas.List.Edits.{sets-eq}
+use borrow.Rule.Slice.PartMut.{put_mid}
 use Rattle.buffer.specs.Put.{Put, Room, Printed}
 
 -- two writes one after another are one write of both texts
@@ -40,32 +41,11 @@ room_rest vs ws e h q = record { fits = omega (arith, h.fits, ap length e, lengt
 pub wider : {m most : ℕ} {l text l' : List ℕ} {at e : ℕ} → m ≤ most → Printed m l at text l' e → Printed most l at text l' e
 wider h p = record { put = p.put; short = omega (arith, p.short) }
 
--- of the text that is copied, the bytes from j on are still to be written
-pub record Copying (l0 : List ℕ) (start : ℕ) (text : List ℕ) (l : List ℕ) (i j : ℕ) : Type 0 where
-  pub is : sets l0 start text ≡ sets l i (drop j text)
-  pub end : start + j ≡ i
-  pub within : j ≤ length text
-  pub room : start + length text ≤ length l0
-  pub long : length l ≡ length l0
-
-pub copy_none : {l0 : List ℕ} {start : ℕ} {text : List ℕ} → Room l0 start text → Copying l0 start text l0 start 0
-copy_none h = record { is = refl; end = omega arith; within = omega arith; room = h.fits; long = refl }
-
-module _ (l0 : List ℕ) (start : ℕ) (text l : List ℕ) (i j : ℕ) (q : Copying l0 start text l i j) where
-  pub copy_room : j < length text → i < length l
-  copy_room h = omega (arith, q.end, q.room, q.long)
-
-  pub copy_next : j < length text → Copying l0 start text (set l i (get_or text j 0)) (i + 1) (j + 1)
-  copy_next h =
-      record {
-        is = q.is ∙ rw (drop-cons text j 0, add-one i, add-one j);
-        end = omega (arith, q.end);
-        within = omega arith;
-        room = q.room;
-        long = simp length-set q.long;
-      }
-
-  pub copy_all : length text ≤ j → Put l0 start text l i
-  copy_all h = record { is = sym (q.is ∙ rw (drop_of_length-le text h)); end = omega (arith, q.end, q.within) }
-
-pub ruleset copying = (copy_none, copy_room, copy_next, copy_all)
+-- a text copied to its place
+pub copied : (l text vs : List ℕ) (at : ℕ) → Room l at text → vs ≡ text → Put l at text (put_mid at (at + length text - at) l vs) (at + length text)
+copied l text vs at h e =
+    let k : at + length text - at ≡ length text = omega arith in
+    record {
+      is = sym (sets-eq text l at h.fits ∙ append_assoc (take at l) text (drop (at + length text) l) ∙ rw (e, k, drop-drop (length text) at l));
+      end = refl;
+    }

@@ -1,45 +1,39 @@
--- A word written byte by byte, and the two words of the map. Assumes nothing.
-use Prim.Native.Nat.{ℕ, zero, suc, ◌+◌, ◌-◌, ◌*◌, ◌/◌, ◌%◌, ◌≤◌, ◌<◌}
+-- A word written, and the two words of the map. Assumes nothing.
+use Prim.Native.Nat.{ℕ, zero, suc, ◌+◌, ◌*◌, ◌/◌, ◌%◌}
 use mathlib.Core.Path.{◌≡◌, refl}
 use mathlib.Core.Bool.{Bool}
 use mathlib.Core.List.{List, [], ◌∷◌, ◌++◌}
 use native.Mathlib.Omega.{arith}
+use mir.Syntax.{w64}
+use Rattle.std.specs.Int.{to_le_bytes}
 use Rattle.lit_words.specs.declared.Lit.{Lit}
 use Rattle.lit_words.specs.Lit.{word, words_of}
 use Rattle.lit_words.proofs.Bits.{word_lt, low_byte}
 use Rattle.buffer.specs.Put.{Room, Put}
-use Rattle.buffer.proofs.Chain.{Putting, start, first, again, none, then, done}
+use Rattle.buffer.proofs.Chain.{Putting, start, first, then, done}
 use Rattle.form.specs.Form.{map_bytes, map_width}
 use Rattle.byte_numbers.specs.MapWords.{low_first, words_bytes}
 
--- of the bytes of a word, those from j on, which are the bytes of rest, are still to be written
-pub record Wording (l0 : List ℕ) (i0 w j rest : ℕ) (l : List ℕ) (i : ℕ) : Type 0 where
-  pub putting : Putting l0 i0 (low_first 8 w) l i (low_first (8 - j) rest) []
+-- the bytes of a word
+eight_are : (w : ℕ) → to_le_bytes w64 w ≡ low_first 8 w
+unfolding low_first
+eight_are w =
+    let b : w / 256 / 256 ≡ w / 65536 = omega arith in
+    let d : w / 65536 / 256 ≡ w / 16777216 = omega arith in
+    let e : w / 16777216 / 256 ≡ w / 4294967296 = omega arith in
+    let f : w / 4294967296 / 256 ≡ w / 1099511627776 = omega arith in
+    let g : w / 1099511627776 / 256 ≡ w / 281474976710656 = omega arith in
+    let h : w / 281474976710656 / 256 ≡ w / 72057594037927936 = omega arith in
+    rw (b, d, e, f, g, h)
 
-module _ (l0 : List ℕ) (i0 w : ℕ) where
-  pub wording_none : Room l0 i0 (low_first 8 w) → Wording l0 i0 w 0 w l0 i0
-  wording_none h = record { putting = start _ _ refl h }
+module _ (w : ℕ) (v : List ℕ) (e : v ≡ to_le_bytes w64 w) (l : List ℕ) (i : ℕ) where
+  pub word_room : Room l i (low_first 8 w) → Room l i v
+  word_room h = rw (e, eight_are w) h
 
-  module _ (j rest : ℕ) (l : List ℕ) (i : ℕ) (q : Wording l0 i0 w j rest l i) where
-    module _ (g : j < 8) where
-      next_byte : low_first (8 - j) rest ≡ (rest % 256 ∷ []) ++ low_first (8 - (j + 1)) (rest / 256)
-      unfolding low_first
-      next_byte = let k : 8 - j ≡ suc (8 - (j + 1)) = omega arith in rw k
+  pub word_put : (l1 : List ℕ) (n : ℕ) → Put l i v l1 n → Put l i (low_first 8 w) l1 n
+  word_put l1 n p = rw (e, eight_are w) at p
 
-      bytes_more : Putting l0 i0 (low_first 8 w) l i (rest % 256 ∷ []) (low_first (8 - (j + 1)) (rest / 256) ∷ [])
-      bytes_more = again next_byte q.putting
-
-      pub wording_room : Room l i (rest % 256 ∷ [])
-      wording_room = first bytes_more
-
-      pub wording_next : (l1 : List ℕ) (m : ℕ) → Put l i (rest % 256 ∷ []) l1 m → Wording l0 i0 w (j + 1) (rest / 256) l1 m
-      wording_next l1 m p = record { putting = then p bytes_more }
-
-    pub wording_all : 8 ≤ j → j ≤ 8 → Put l0 i0 (low_first 8 w) l i
-    unfolding low_first
-    wording_all g h = let e : j ≡ 8 = omega arith in none (rw e) q.putting
-
-pub ruleset wording = (wording_none, wording_room, wording_next, wording_all)
+pub ruleset wording = (word_room, word_put)
 
 -- the two words, the low one first
 module _ (lit : Lit) (l : List ℕ) (i : ℕ) (h : Room l i (words_bytes lit)) where

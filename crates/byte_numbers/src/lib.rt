@@ -16,25 +16,13 @@ use lit_words::Lit;
 // The bytes of a number of 32 bits at most.
 const MOST_BYTES: usize = 4;
 
-// The four bytes of a number, highest first.
-fn four_bytes(value: u32) -> [u8; MOST_BYTES]
-    ensures { result ≡ high_first most_bytes value }
-{
-    let highest = (value / 16777216) as u8;
-    let high = (value / 65536 % 256) as u8;
-    let low = (value / 256 % 256) as u8;
-    let lowest = (value % 256) as u8;
-    [highest, high, low, lowest]
-}
-
 // Writes a number as so many bytes, highest first.
 pub fn put_number(out: &mut [u8], at: usize, value: u32, width: usize) -> usize
     requires { Wide width value × Room out.old at (high_first width value) }
     ensures { Put out.old at (high_first width value) out.new result }
 {
-    let bytes = four_bytes(value);
-    let start = MOST_BYTES - width;
-    buffer::put_text(out, at, &bytes[start..])
+    let bytes = value.to_be_bytes();
+    buffer::put_text(out, at, &bytes[MOST_BYTES - width..])
 }
 
 // A number moved up by a byte, with that byte as its lowest.
@@ -42,7 +30,7 @@ fn with_byte(value: u64, byte: u8) -> u64
     requires { value < 2 ^ 56 }
     ensures { (result ≡ value * 256 + byte) × (byte < 256) }
 {
-    value * 256 + byte as u64
+    value * 256 + u64::from(byte)
 }
 
 // The number that up to four bytes are, the highest first.
@@ -51,10 +39,8 @@ pub fn number_of(bytes: &[u8]) -> u32
     ensures { (result ≡ number_in bytes.now) × (result < 256 ^ length bytes.now) }
 {
     let mut value: u64 = 0;
-    let mut i = 0;
-    while i < bytes.len() {
-        value = with_byte(value, bytes[i]);
-        i += 1;
+    for byte in bytes {
+        value = with_byte(value, *byte);
     }
     value as u32
 }
@@ -64,13 +50,7 @@ fn put_word(out: &mut [u8], start: usize, word: u64) -> usize
     requires { Room out.old start (low_first 8 word) }
     ensures { Put out.old start (low_first 8 word) out.new result }
 {
-    let mut at = start;
-    let mut rest = word;
-    for byte in 0..8usize {
-        at = buffer::put_byte(out, at, (rest % 256) as u8);
-        rest = rest / 256;
-    }
-    at
+    buffer::put_text(out, start, &word.to_le_bytes())
 }
 
 // Writes the map: the words of the lit places.
@@ -88,10 +68,8 @@ fn read_word(form: &[u8], start: usize, first: usize) -> u64
     ensures { result ≡ word (map_bit (take map_width (drop start form.now))) 64 (8 * first) }
 {
     let mut word: u64 = 0;
-    let mut left: usize = 8;
-    while 0 < left {
-        left -= 1;
-        word = with_byte(word, form[start + first + left]);
+    for i in (0..8usize).rev() {
+        word = with_byte(word, form[start + first + i]);
     }
     word
 }

@@ -1,2 +1,2 @@
--- The laws of port fields: filled one by one, and judged as the list is.
+-- The laws of port fields: judged as the list is.
 pub mod Fields

@@ -21,11 +21,7 @@ pub fn port_fields(ports: &[u8]) -> [u8; PORT_FIELDS]
     ensures { result ≡ ports.now ++ replicate (port_fields - length ports.now) 0 }
 {
     let mut fields = [0u8; PORT_FIELDS];
-    let mut i: usize = 0;
-    while i < ports.len() {
-        fields[i] = ports[i];
-        i += 1;
-    }
+    fields[..ports.len()].copy_from_slice(ports);
     fields
 }
 
@@ -33,13 +29,7 @@ pub fn port_fields(ports: &[u8]) -> [u8; PORT_FIELDS]
 pub fn node_count_holds(nodes: u8, ports: &[u8]) -> bool
     ensures { result ≡ (leb least_nodes nodes && leb nodes most_nodes && eqb (length ports.now) nodes) }
 {
-    if nodes < LEAST_NODES {
-        return false;
-    }
-    if MOST_NODES < nodes {
-        return false;
-    }
-    ports.len() == nodes as usize
+    (LEAST_NODES..=MOST_NODES).contains(&nodes) && ports.len() == usize::from(nodes)
 }
 
 // Why the port counts are refused, if they are.
@@ -47,22 +37,19 @@ pub fn ports_verdict(fields: [u8; PORT_FIELDS]) -> Verdict
     ensures { result ≡ judged (port_causes fields) }
 {
     if !ports::counts_hold(fields) {
-        return Verdict::Refused(Refusal::PortCount);
+        return Err(Refusal::PortCount);
     }
     if MOST_TOTAL < ports::port_total(fields) {
-        return Verdict::Refused(Refusal::PortSum);
+        return Err(Refusal::PortSum);
     }
-    Verdict::Granted
+    Ok(())
 }
 
 // Whether an end of the circuit is not on the ring.
 fn off_ring(nodes: u8, circuit: Circuit) -> bool
     ensures { result ≡ not (on_ring nodes circuit.source && on_ring nodes circuit.destination) }
 {
-    if !lightpath::on_ring(nodes, circuit.source) {
-        return true;
-    }
-    !lightpath::on_ring(nodes, circuit.destination)
+    !lightpath::on_ring(nodes, circuit.source) || !lightpath::on_ring(nodes, circuit.destination)
 }
 
 // What is refused by the nodes that a request names: one off the ring, one node twice.
@@ -70,12 +57,12 @@ pub fn nodes_verdict(nodes: u8, circuit: Circuit) -> Verdict
     ensures { result ≡ judged (named_causes nodes circuit) }
 {
     if off_ring(nodes, circuit) {
-        return Verdict::Refused(Refusal::OffRing);
+        return Err(Refusal::OffRing);
     }
     if circuit.source == circuit.destination {
-        return Verdict::Refused(Refusal::SameNode);
+        return Err(Refusal::SameNode);
     }
-    Verdict::Granted
+    Ok(())
 }
 
 // What an opening is refused for before the places are looked at: a short list, then the nodes that it names.
@@ -83,7 +70,7 @@ pub fn named_verdict(nodes: u8, circuit: Circuit, lent: usize) -> Verdict
     ensures { result ≡ judged ((ShortList if ltb lent least_records) ∷ named_causes nodes circuit) }
 {
     if lent < LEAST_RECORDS {
-        return Verdict::Refused(Refusal::ShortList);
+        return Err(Refusal::ShortList);
     }
     nodes_verdict(nodes, circuit)
 }
@@ -98,13 +85,13 @@ pub fn used_verdict(ports: [u8; PORT_FIELDS], circuit: Circuit, seen: Survey) ->
         ) }
 {
     if 0 < seen.numbered {
-        return Verdict::Refused(Refusal::NumberLive);
+        return Err(Refusal::NumberLive);
     }
     if !ports::port_free(ports, circuit.source, seen.sent) {
-        return Verdict::Refused(Refusal::NoTransmitter);
+        return Err(Refusal::NoTransmitter);
     }
     if !ports::port_free(ports, circuit.destination, seen.received) {
-        return Verdict::Refused(Refusal::NoReceiver);
+        return Err(Refusal::NoReceiver);
     }
-    Verdict::Granted
+    Ok(())
 }

@@ -5,18 +5,17 @@ use mathlib.Core.Logic.{◌≢◌}
 use mathlib.Core.List.{List, [], ◌∷◌}
 use native.Mathlib.Decide.{ℕ_discrete}
 use native.Mathlib.Omega.{arith}
-use lib.ListN.{length, set}
+use lib.ListN.{length}
 use lib.Seq.{set-set}
 use Rattle.basis.specs.Count.{weigh, All}
 use Rattle.basis.proofs.Bools.{all_map}
 use Rattle.lightpath.specs.declared.Circuit.{Circuit}
-use Rattle.slots.specs.Slot.{held, without}
+use Rattle.slots.specs.Slot.{held}
 use Rattle.slots.specs.declared.Slot.{Slot}
 use Rattle.slots.specs.declared.Slot.TheVariants.{Unlit as unlit}
-use Rattle.channels.specs.Channels.{Channels, at, slots, circuits, where_is}
+use Rattle.channels.specs.Channels.{Channels, at, slots, circuits}
 use Rattle.channels.specs.Change.{Change, ◌gets◌, put, puts}
 use Rattle.channels.specs.Changes.{one_change, two_changes, in_order}
-use Rattle.channels.specs.Closing.{closed}
 use Rattle.channels.proofs.Places.{weigh_slots, weigh_place, weigh_nowhere, put_length, put_here, put_there, put_sum}
 
 -- no place is changed twice
@@ -170,7 +169,3 @@ puts_one a t = again a (put a t) ∙ again a t
 
 pub puts_two : (a b : Change) (t : Channels) → puts (in_order (two_changes a b)) t ≡ puts (a ∷ b ∷ []) t
 puts_two a b t = again b (put a t)
-
--- a store of what is left at the place of a number is a closing
-pub closed_is : (t : Channels) (n p : ℕ) (s : Slot) → p ≡ where_is t n → s ≡ without n (at t p) → set t p (record { slot = s }) ≡ closed t n
-closed_is t n p s e h = rw (h, e)

@@ -15,21 +15,21 @@ mod updates;
 pub use search::{lit_of, where_is};
 pub use updates::{changed, without_circuit};
 
-// A place of the table. (A field can be an array of structs that hold an enum, and not of enums.)
-#[derive(Clone, Copy)]
+// A place of the table: what it holds.
+#[derive(Clone, Copy, Debug, PartialEq, Eq)]
 pub struct Channel {
     pub slot: Slot,
 }
 
 // A place and the content that it gets.
-#[derive(Clone, Copy)]
+#[derive(Clone, Copy, Debug, PartialEq, Eq)]
 pub struct Change {
     pub place: usize,
     pub slot: Slot,
 }
 
 // Three changes, one after the other. Fewer are three of which the last is said again.
-#[derive(Clone, Copy)]
+#[derive(Clone, Copy, Debug, PartialEq, Eq)]
 pub struct Changes {
     pub first: Change,
     pub second: Change,
@@ -37,7 +37,7 @@ pub struct Changes {
 }
 
 // A circuit and the place at which it stands.
-#[derive(Clone, Copy)]
+#[derive(Clone, Copy, Debug, PartialEq, Eq)]
 pub struct Standing {
     pub place: usize,
     pub circuit: Circuit,
@@ -54,9 +54,7 @@ pub fn unlit_channels() -> [Channel; PLACE_COUNT]
 pub fn slot_at(channels: [Channel; PLACE_COUNT], place: usize) -> Slot
     ensures { result ≡ at channels place }
 {
-    if PLACE_COUNT <= place {
-        return Slot::Unlit;
-    }
-    let channel = channels[place];
-    channel.slot
+    channels
+        .get(place)
+        .map_or(Slot::Unlit, |channel| channel.slot)
 }

@@ -1,26 +1,20 @@
 // Searches over all places: where a circuit stands, and which places are lit.
 
-ghost use Rattle.std.specs.Prelude.{◌≡◌};
+ghost use Rattle.std.specs.Prelude.{◌≡◌, ◌<◌, ◌≤◌, MatchOption};
+ghost use Rattle.limits.specs.Limits.{place_count};
 ghost use Rattle.channels.specs.Channels.{where_is, lit_of};
 
 use crate::Channel;
 use limits::PLACE_COUNT;
 use lit_words::Lit;
 
-// The place of the circuit with a number, or 128 where none has it.
-pub fn where_is(channels: [Channel; PLACE_COUNT], number: u32) -> usize
-    ensures { result ≡ where_is channels number }
+// The place of the circuit with a number, if one has it.
+pub fn where_is(channels: [Channel; PLACE_COUNT], number: u32) -> Option<usize>
+    ensures { MatchOption result (place_count ≤ where_is channels number) (λ p. (p ≡ where_is channels number) × (p < place_count)) }
 {
-    let mut p: usize = 0;
-    while p < PLACE_COUNT {
-        let channel = channels[p];
-        let slot = channel.slot;
-        if slot.holds(number) {
-            return p;
-        }
-        p += 1;
-    }
-    PLACE_COUNT
+    channels
+        .iter()
+        .position(|channel| channel.slot.holds(number))
 }
 
 // The words of a table, made from its highest place down.
@@ -28,13 +22,9 @@ pub fn lit_of(channels: [Channel; PLACE_COUNT]) -> Lit
     ensures { result ≡ lit_of channels }
 {
     let mut lit = Lit { low: 0, high: 0 };
-    let mut p: usize = PLACE_COUNT;
-    while 0 < p {
-        p -= 1;
-        let channel = channels[p];
-        let slot = channel.slot;
-        if slot.is_lit() {
-            lit = lit.with(p);
+    for place in (0..PLACE_COUNT).rev() {
+        if channels[place].slot.is_lit() {
+            lit = lit.with(place);
         }
     }
     lit

@@ -15,22 +15,14 @@ impl Changes {
     pub fn one(a: Change) -> Changes
         ensures { result ≡ one_change a }
     {
-        Changes {
-            first: a,
-            second: a,
-            third: a,
-        }
+        Changes::three(a, a, a)
     }
 
     // Two changes, in their order.
     pub fn two(a: Change, b: Change) -> Changes
         ensures { result ≡ two_changes a b }
     {
-        Changes {
-            first: a,
-            second: b,
-            third: b,
-        }
+        Changes::three(a, b, b)
     }
 
     // Three changes, in their order.
@@ -51,18 +43,9 @@ pub fn changed(channels: [Channel; PLACE_COUNT], changes: Changes) -> [Channel; 
     ensures { result ≡ puts (in_order changes) channels }
 {
     let mut after = channels;
-    let first = changes.first;
-    let a = first.place;
-    let slot = first.slot;
-    after[a] = Channel { slot };
-    let second = changes.second;
-    let b = second.place;
-    let slot = second.slot;
-    after[b] = Channel { slot };
-    let third = changes.third;
-    let c = third.place;
-    let slot = third.slot;
-    after[c] = Channel { slot };
+    after[changes.first.place].slot = changes.first.slot;
+    after[changes.second.place].slot = changes.second.slot;
+    after[changes.third.place].slot = changes.third.slot;
     after
 }
 
@@ -76,10 +59,6 @@ pub fn without_circuit(
     ensures { result ≡ closed channels number }
 {
     let mut after = channels;
-    let channel = after[place];
-    let slot = channel.slot;
-    after[place] = Channel {
-        slot: slot.without(number),
-    };
+    after[place].slot = after[place].slot.without(number);
     after
 }

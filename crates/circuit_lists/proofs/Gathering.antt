@@ -5,7 +5,7 @@ use mathlib.Core.List.{List, [], ◌∷◌, ◌++◌, append_assoc, append-nil}
 use native.Mathlib.Nat.{le_of_suc-le-suc, not-suc-le-zero, suc-add, add-suc, add-zero, zero-add}
 use native.Mathlib.Numerals.{add-one}
 use native.Mathlib.Omega.{arith}
-use lib.ListN.{length, set, take, replicate, length-set, length-append, length-replicate}
+use lib.ListN.{length, set, take, replicate, length-set, length-replicate}
 use lib.Seq.{take-suc-set, length-take-le}
 use Rattle.limits.specs.Limits.{place_count, circuit_room}
 use Rattle.lightpath.specs.declared.Circuit.{Circuit}
@@ -74,15 +74,6 @@ module _ {A : Type 0} {f : ℕ → List A} {room : ℕ} where
     fits = l;
   }
 
--- one more is stored after the list that an array holds
-pub gathers_more : {A : Type 0} {most count : ℕ} {array list : List A} (room : ℕ) (x : A) → length array ≡ room → most < room
-    → Gathers most array count list → Gathers (most + 1) (set array count x) (count + 1) (list ++ x ∷ [])
-gathers_more {count = count} {array} {list} room x e l h = record {
-  are = rw (add-one, take-suc-set array count x (omega (arith, h.fits)), h.are);
-  counted = rw (length-append list (x ∷ []), h.counted);
-  fits = omega (arith, h.fits);
-}
-
 -- the circuits of place p
 unfoldable pub circuits_at : Channels → ℕ → List Circuit
 circuits_at t p = held (at t p)
@@ -119,9 +110,23 @@ alone_from_lem (suc m) k (ch ∷ t) h =
     ∙ rw add-zero (ap (λ (l : List Standing). alone_as k ch.slot ++ l) (simp add-suc (simp suc-add at (alone_from_lem m (suc k) t (le_of_suc-le-suc h)))))
     ∙ sym (alone_apart k ch.slot (take m (slots t)))
 
--- the places below m give the nonsharing circuits there
-below_nonsharing : (t : Channels) (p m : ℕ) → p ≡ m → m ≤ length t → below (λ p. alone_as p (at t p)) p ≡ nonsharing m t
-below_nonsharing t p m e h = rw e (simp zero-add at (alone_from_lem m 0 t h))
+-- the first contents are those of the first places
+slots_take : (m : ℕ) (t : Channels) → take m (slots (take m t)) ≡ take m (slots t)
+slots_take zero t = refl
+slots_take (suc m) [] = refl
+slots_take (suc m) (ch ∷ t) = ap (λ (u : List Slot). ch.slot ∷ u) (slots_take m t)
+
+-- the first m places give the nonsharing circuits there
+below_nonsharing : (t : Channels) (p m : ℕ) → p ≡ m → m ≤ length t
+    → below (λ p. alone_as p (at (take m t) p)) p ≡ nonsharing m t
+below_nonsharing t p m e h =
+    rw e (simp zero-add at (alone_from_lem m 0 (take m t) (omega (arith, length-take-le m t h))) ∙ ap (alone_from 0) (slots_take m t))
+
+-- a place with no circuit alone gives nothing
+alone_nothing : (p : ℕ) (s : Slot) → ((a : Circuit) → s ≡ alone a → ⊥) → alone_as p s ≡ []
+alone_nothing p unlit n = refl
+alone_nothing p (alone a) n = absurd (n a refl)
+alone_nothing p (shared a b) n = refl
 
 -- The steps of the loop over all places, by what the next place holds.
 module _ (t : Channels) (list : List Circuit) (count p : ℕ) (h : Gathered (circuits_at t) circuit_room list count p) where
@@ -146,25 +151,24 @@ module _ (t : Channels) (list : List Circuit) (count p : ℕ) (h : Gathered (cir
 
 -- Those of the loop over the places below a limit.
 module _ (t : Channels) (list : List Standing) (count p : ℕ) (h : Gathered (alone_at t) (place_count + 1) list count p) where
-  pub alone_none : at t p ≡ unlit → Gathered (alone_at t) (place_count + 1) list count (p + 1)
+  pub alone_none : ((a : Circuit) → at t p ≡ alone a → ⊥) → Gathered (alone_at t) (place_count + 1) list count (p + 1)
   unfolding alone_at
-  alone_none e = gather_none h (ap (alone_as p) e)
+  alone_none n = gather_none h (alone_nothing p (at t p) n)
 
-  pub alone_one : (a : Circuit) (limit : ℕ) → at t p ≡ alone a → count ≤ p → p < limit → limit ≤ place_count
+  pub alone_one : (a : Circuit) → at t p ≡ alone a → count ≤ p → p < length t → length t ≤ place_count
       → Gathered (alone_at t) (place_count + 1) (set list count (record { place = p; circuit = a })) (count + 1) (p + 1)
   unfolding alone_at
-  alone_one a limit e l k m = gather_one h (ap (alone_as p) e) (omega arith)
+  alone_one a e l k m = gather_one h (ap (alone_as p) e) (omega arith)
 
-  pub alone_two : (a b : Circuit) → at t p ≡ shared a b → Gathered (alone_at t) (place_count + 1) list count (p + 1)
-  unfolding alone_at
-  alone_two a b e = gather_none h (ap (alone_as p) e)
-
-  -- its end
-  pub alone_end : (limit : ℕ) → limit ≤ p → p ≤ limit → limit ≤ place_count → count ≤ p → length t ≡ place_count
-      → Gathers place_count list count (nonsharing limit t)
-  unfolding alone_at
-  alone_end limit l k most m n = gather_end h (below_nonsharing t p limit (omega arith) (omega arith)) (omega arith) (omega arith)
+-- its end
+pub alone_end : (t : Channels) (limit : ℕ) (list : List Standing) (count p : ℕ) → Gathered (alone_at (take limit t)) (place_count + 1) list count p
+    → length (take limit t) ≤ p → p ≤ length (take limit t) → limit ≤ place_count → length t ≡ place_count → count ≤ p
+    → Gathers place_count list count (nonsharing limit t)
+unfolding alone_at
+alone_end t limit list count p h l k most n m =
+    let e : length (take limit t) ≡ limit = length-take-le limit t (omega arith) in
+    gather_end h (below_nonsharing t p limit (omega arith) (omega arith)) (omega arith) (omega arith)
 
 pub ruleset gather_circuits = (gather_start, circuits_none, circuits_one, circuits_two, circuits_end)
 
-pub ruleset gather_alone = (gather_start, alone_none, alone_one, alone_two, alone_end)
+pub ruleset gather_alone = (gather_start, alone_none, alone_one, alone_end)

@@ -33,12 +33,8 @@ pub fn circuits_of(channels: [Channel; PLACE_COUNT]) -> Circuits
 {
     let mut list = [BLANK_CIRCUIT; CIRCUIT_ROOM];
     let mut count: usize = 0;
-    let mut p: usize = 0;
-    while p < PLACE_COUNT {
-        let channel = channels[p];
-        let slot = channel.slot;
-        p += 1;
-        match slot {
+    for channel in &channels {
+        match channel.slot {
             Slot::Unlit => {}
             Slot::Alone(a) => {
                 list[count] = a;
@@ -64,19 +60,10 @@ pub fn nonsharing_below(channels: [Channel; PLACE_COUNT], limit: usize) -> Candi
         circuit: BLANK_CIRCUIT,
     }; PLACE_COUNT + 1];
     let mut count: usize = 0;
-    let mut p: usize = 0;
-    while p < limit {
-        let channel = channels[p];
-        let slot = channel.slot;
-        let place = p;
-        p += 1;
-        match slot {
-            Slot::Unlit => {}
-            Slot::Alone(a) => {
-                list[count] = Standing { place, circuit: a };
-                count += 1;
-            }
-            Slot::Shared(_, _) => {}
+    for (place, channel) in channels[..limit].iter().enumerate() {
+        if let Slot::Alone(circuit) = channel.slot {
+            list[count] = Standing { place, circuit };
+            count += 1;
         }
     }
     Candidates { list, count }

@@ -1,48 +1,34 @@
 -- The digits of a number counted. Assumes nothing.
-use Prim.Native.Nat.{ℕ, ◌+◌, ◌/◌, ◌%◌, ◌^◌, ◌≤◌, ◌<◌}
-use mathlib.Core.Path.{◌≡◌, refl, ap}
-use mathlib.Core.List.{[], ◌∷◌}
-use native.Mathlib.Decide.{dec_lt}
+use Prim.Native.Nat.{ℕ, zero, suc, ◌+◌, ◌*◌, ◌/◌, ◌^◌, ◌≤◌, ◌<◌}
+use mathlib.Core.Path.{◌≡◌}
+use native.Mathlib.Nat.{pow-suc}
 use native.Mathlib.Omega.{arith}
 use lib.ListN.{length, length-append}
+use Rattle.std.specs.Prelude.{Option, Some, None}
+use Rattle.std.specs.Option.{IfSome, IfNone, unwrap_or}
 use Rattle.text.specs.Decimal.{decimal, most_digits}
 use Rattle.text.proofs.Decimal.{decimal_small, decimal_large}
-use Rattle.text.proofs.Back.{decimal_short}
 
--- every number has a digit
-decimal_some : (n : ℕ) → 1 ≤ length (decimal n)
-decimal_some n = go (dec_lt n 10)
+-- a number of the powers of ten
+digits_are : (k n : ℕ) → 10 ^ k ≤ n → n < 10 * 10 ^ k → length (decimal n) ≡ k + 1
+digits_are zero n h g = let l : n < 10 = omega arith in rw (decimal_small n l) (omega arith)
+digits_are (suc k) n h g =
+    let p : 10 ^ suc k ≡ 10 ^ k * 10 = pow-suc 10 k in
+    let some : 1 ≤ 10 ^ k = power_some k in
+    let l : 10 ≤ n = omega (arith, p, some) in
+    let ih : length (decimal (n / 10)) ≡ k + 1 = digits_are k (n / 10) (omega (arith, p)) (omega (arith, p)) in
+    rw (decimal_large n l, length-append) (omega (arith, ih))
   where
-    go : Dec (n < 10) → 1 ≤ length (decimal n)
-    go (yes h) = rw (decimal_small n h) (omega arith)
-    go (no h) = let l : 10 ≤ n = omega (arith, h) in rw (decimal_large n l, length-append) (omega arith)
+    power_some : (k : ℕ) → 1 ≤ 10 ^ k
+    power_some zero = omega arith
+    power_some (suc k) = omega (arith, pow-suc 10 k, power_some k)
 
--- but for those of `rest`, count less one digits of n are counted
-pub record Counting (n count rest : ℕ) : Type 0 where
-  pub all : count + length (decimal rest) ≡ 1 + length (decimal n)
-  pub short : count ≤ most_digits
-  pub small : n < 2 ^ 32
+-- a number has one more digit than the power of ten that it reaches, and 0 has one
+pub digits_counted : (n : ℕ) (r : Option ℕ) → IfNone r (n ≡ 0) → IfSome r (λ k. 10 ^ k ≤ n) → IfSome r (λ k. n < 10 * 10 ^ k) → (p : ℕ) → p ≡ unwrap_or r 0
+    → p + 1 ≡ length (decimal n)
+digits_counted n None z h g p e = let l : n < 10 = omega (arith, z) in rw (e, decimal_small n l)
+digits_counted n (Some k) z h g p e = rw (e, digits_are k n h g)
 
-module _ (n : ℕ) where
-  pub count_none : n < 2 ^ 32 → Counting n 1 n
-  count_none h = record { all = refl; short = omega arith; small = h }
-
-  module _ (count rest : ℕ) (q : Counting n count rest) where
-    last : 10 ≤ rest → length (decimal rest) ≡ length (decimal (rest / 10)) + 1
-    last h = rw (decimal_large rest h) (length-append (decimal (rest / 10)) ((48 + rest % 10) ∷ []))
-
-    pub count_room : count ≤ most_digits
-    count_room = q.short
-
-    pub count_next : 10 ≤ rest → Counting n (count + 1) (rest / 10)
-    count_next h =
-        record {
-          all = omega (arith, q.all, last h);
-          short = omega (arith, q.all, last h, decimal_some (rest / 10), decimal_short 9 n (omega (arith, q.small)));
-          small = q.small;
-        }
-
-    pub count_all : rest < 10 → count ≡ length (decimal n)
-    count_all h = omega (arith, q.all, ap length (decimal_small rest h))
-
-pub ruleset counting = (count_none, count_room, count_next, count_all)
+pub few_digits : (r : Option ℕ) → IfSome r (λ k. k < 10) → (p : ℕ) → p ≡ unwrap_or r 0 → p + 1 ≤ most_digits
+few_digits None h p e = omega (arith, e)
+few_digits (Some k) h p e = omega (arith, e, h)

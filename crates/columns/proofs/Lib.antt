@@ -1,2 +1,3 @@
--- The laws of columns: digits counted.
+-- The laws of columns: digits counted, and spaces put.
 mod DigitCount
+mod Spaces

@@ -24,13 +24,7 @@ pub const COLUMNS_ROOM: usize = PORT_FIELDS * CELL_ROOM + 1;
 pub fn digits(n: u32) -> usize
     ensures { (result ≡ length (decimal n)) × (result ≤ most_digits) }
 {
-    let mut count: usize = 1;
-    let mut rest = n;
-    while 10 <= rest {
-        rest = rest / 10;
-        count += 1;
-    }
-    count
+    n.checked_ilog10().unwrap_or(0) as usize + 1
 }
 
 // The spaces before what takes so many bytes of a column, and the one that parts the column from the one before.
@@ -38,10 +32,7 @@ fn margin(width: usize, taken: usize) -> usize
     requires { (width ≤ most_digits) × (taken ≤ most_digits) }
     ensures { result + taken ≤ cell_room }
 {
-    if width < taken {
-        return 1;
-    }
-    width - taken + 1
+    width.saturating_sub(taken) + 1
 }
 
 // Spaces.
@@ -49,13 +40,9 @@ fn put_spaces(out: &mut [u8], at: usize, count: usize) -> usize
     requires { at + count ≤ length out.old }
     ensures { Appended count out.old at out.new result }
 {
-    let mut next = at;
-    let mut i: usize = 0;
-    while i < count {
-        next = buffer::put_byte(out, next, b' ');
-        i += 1;
-    }
-    next
+    let end = at + count;
+    out[at..end].fill(b' ');
+    end
 }
 
 // A number.
@@ -73,29 +60,23 @@ fn put_cell(out: &mut [u8], at: usize, width: usize, n: u64) -> usize
     requires { (width ≤ most_digits) × (at + cell_room ≤ length out.old) }
     ensures { Appended cell_room out.old at out.new result }
 {
-    if n <= u32::MAX as u64 {
-        return put_number(out, at, width, n as u32);
+    match u32::try_from(n) {
+        Ok(n) => put_number(out, at, width, n),
+        Err(_) => {
+            let next = put_spaces(out, at, width);
+            buffer::put_byte(out, next, b'.')
+        }
     }
-    let next = put_spaces(out, at, width);
-    buffer::put_byte(out, next, b'.')
 }
 
-// A cell for each of the first numbers.
-fn put_cells(
-    out: &mut [u8],
-    at: usize,
-    numbers: [u64; PORT_FIELDS],
-    count: usize,
-    width: usize,
-) -> usize
-    requires { (width ≤ most_digits) × (count ≤ most_nodes) × (at + cells_room ≤ length out.old) }
+// A cell for each number.
+fn put_cells(out: &mut [u8], at: usize, numbers: &[u64], width: usize) -> usize
+    requires { (width ≤ most_digits) × (length numbers.now ≤ most_nodes) × (at + cells_room ≤ length out.old) }
     ensures { Appended cells_room out.old at out.new result }
 {
     let mut next = at;
-    let mut i: usize = 0;
-    while i < count {
-        next = put_cell(out, next, width, numbers[i]);
-        i += 1;
+    for number in numbers {
+        next = put_cell(out, next, width, *number);
     }
     next
 }
@@ -111,6 +92,6 @@ pub fn put_columns(
     requires { (width ≤ most_digits) × (count ≤ most_nodes) × (at + columns_room ≤ length out.old) }
     ensures { Appended columns_room out.old at out.new result }
 {
-    let next = put_cells(out, at, numbers, count, width);
+    let next = put_cells(out, at, &numbers[..count], width);
     buffer::put_byte(out, next, b'\n')
 }

@@ -11,10 +11,7 @@ use lib.ListN.{length, get_or}
 use borrow.Author.Tests.{eqb-false}
 use Rattle.basis.specs.Choice.{pick}
 use Rattle.basis.specs.Count.{All}
-use Rattle.text.specs.declared.Number.{Number}
-use Rattle.text.specs.declared.Number.TheVariants.{Got, Missing}
-use Rattle.text.specs.declared.Signed.{Signed}
-use Rattle.text.specs.declared.Signed.TheVariants.{Got as got_signed, Missing as no_signed}
+use Rattle.std.specs.Prelude.{Option, Some, None}
 use Rattle.text.specs.Bytes.{bytes}
 use Rattle.text.specs.Number.{number}
 use Rattle.text.specs.Signed.{signed}
@@ -58,9 +55,9 @@ module _ (n : ℕ) where
   begins_end [] a p = p
   begins_end (w ∷ ws) a p = tt
 
-  begins_given : (m : Number) (f : ℕ → Command) → ((k : ℕ) → Begins n (f k)) → Begins n (given Desk m f)
-  begins_given (Got k) f h = h k
-  begins_given Missing f h = tt
+  begins_given : (m : Option ℕ) (f : ℕ → Command) → ((k : ℕ) → Begins n (f k)) → Begins n (given Desk m f)
+  begins_given (Some k) f h = h k
+  begins_given None f h = tt
 
   begins_field : (bits : ℕ) (ws : List (List ℕ)) (f : ℕ → List (List ℕ) → Command) → ((k : ℕ) (vs : List (List ℕ)) → Begins n (f k vs))
       → Begins n (field Desk bits ws f)
@@ -68,9 +65,9 @@ module _ (n : ℕ) where
   begins_field bits [] f h = tt
   begins_field bits (w ∷ ws) f h = begins_given (number (2 ^ bits) w) _ (λ k. h k ws)
 
-  begins_given_signed : (m : Signed) (f : ℤ → Command) → ((z : ℤ) → Begins n (f z)) → Begins n (given_signed Desk m f)
-  begins_given_signed (got_signed z) f h = h z
-  begins_given_signed no_signed f h = tt
+  begins_given_signed : (m : Option ℤ) (f : ℤ → Command) → ((z : ℤ) → Begins n (f z)) → Begins n (given_signed Desk m f)
+  begins_given_signed (Some z) f h = h z
+  begins_given_signed None f h = tt
 
   begins_signed : (ws : List (List ℕ)) (f : ℤ → List (List ℕ) → Command) → ((z : ℤ) (vs : List (List ℕ)) → Begins n (f z vs))
       → Begins n (signed_field Desk ws f)

@@ -1,5 +1,5 @@
--- The laws of commands: the words after the first, a line by its first word, and where a form or a path begins.
-pub mod Last
-pub mod Fields
+-- The laws of a line by its first word, by its last, and of where a command's form or path begins.
 pub mod FirstWord
+pub mod Last
+pub mod Asked
 pub mod Begins

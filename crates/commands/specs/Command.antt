@@ -1,6 +1,6 @@
 -- What a line asks for beyond the script's three kinds; any other is for the order desk, which runs it or refuses it. Assumes nothing.
 -- What `parse_command` promises.
-use Rattle.std.specs.Prelude.{ℕ, suc, ◌-◌, ◌*◌, Bool, true, false, List, [], ◌∷◌, eqb, leb, ℤ, length, get_or}
+use Rattle.std.specs.Prelude.{ℕ, suc, ◌-◌, ◌*◌, List, [], ◌∷◌, eqb, leb, ℤ, length, get_or}
 use Prim.Native.String.{String}
 use Rattle.basis.specs.Choice.{pick}
 use Rattle.words.specs.Split.{words}
@@ -54,19 +54,9 @@ grid_command asked ws =
     field Desk 32 ws (λ last ws.
     at_end Desk ws (asked spacing start last))))
 
--- the way back, or there
-abbrev pub way_asked : Bool → ℕ → ℤ → ℕ → Command
-way_asked true = Wavelength
-way_asked false = Frequency
-
 -- `from NODE` (02, E7) or `to NODE`: "NODE has 8 bits"
 unfoldable pub node_command : (ℕ → Command) → List (List ℕ) → Command
 node_command asked ws = field Desk 8 ws (λ node ws. at_end Desk ws (asked node))
-
--- the circuits to the node, or from it
-abbrev pub end_asked : Bool → ℕ → Command
-end_asked true node = Ask (To node)
-end_asked false node = From node
 
 -- the lines by their first word, and what the other words lead to
 abbrev pub kinds : List ℕ → List (List ℕ) → List (String × Command)

@@ -1,2 +1,3 @@
 -- What a line asks for beyond the script's three kinds.
 pub mod Command
+pub mod Parsed

@@ -2,12 +2,15 @@
 
 #![tactic(auto)]
 
-ghost use Rattle.std.specs.Prelude.{◌≡◌, ◌≤◌, length, drop};
+ghost use Rattle.std.specs.Prelude.{◌≡◌, ◌≤◌, ℕ, ℤ, length, take, drop, MatchOption};
+ghost use Rattle.std.specs.Option.{unwrap_or};
 ghost use Rattle.words.specs.Split.{other_words};
-ghost use Rattle.words.specs.Parse.{at_end};
-ghost use Rattle.commands.specs.Command.{last_at, by_first, read_command, write_command, link_command, grid_command, way_asked, node_command, end_asked, command_of};
+ghost use Rattle.words.specs.Parse.{by_word, at_end};
+ghost use Rattle.commands.specs.declared.Command.{Command};
+ghost use Rattle.commands.specs.Command.{last_at, read_command, write_command, link_command, grid_command, node_command, kinds, command_of};
+ghost use Rattle.commands.specs.Parsed.{LastWord, grid_asked, node_asked};
 
-use words::{Field, MOST_U8, MOST_U32, SignedField};
+use words::{MOST_U8, MOST_U32};
 
 // The most bytes of a form that are read, from the digits of a word or from a file. A longer file is read to that.
 pub const MOST_READ: usize = 4096;
@@ -58,183 +61,153 @@ pub enum Command {
 }
 
 // The command, where the word that ends at the position is the last.
-fn at_end(line: &[u8], at: usize, command: Command) -> Command
-    ensures { result ≡ at_end Command.Desk (other_words (drop at line.now)) command }
+fn at_end(line: &[u8], at: usize, command: Command) -> Option<Command>
+    ensures { unwrap_or result Command.Desk ≡ at_end Command.Desk (other_words (drop at line.now)) command }
 {
     if at < line.len() {
-        return Command::Desk;
+        return None;
     }
-    command
+    Some(command)
 }
 
-// Where the word after the one that ends at a position begins, if it is the last and has a byte; else 0.
-fn last_word(line: &[u8], at: usize) -> usize
-    ensures { (result ≡ last_at line.now (other_words (drop at line.now))) × (result ≤ length line.now) }
+// Where the word after the one that ends at a position begins, if it is the last and has a byte.
+fn last_word(line: &[u8], at: usize) -> Option<usize>
+    ensures { MatchOption result (last_at line.now (other_words (drop at line.now)) ≡ 0) (LastWord line.now (other_words (drop at line.now))) }
 {
-    if line.len() <= at {
-        return 0;
+    let (word, end) = words::next_word(line, at)?;
+    if word.is_empty() || end < line.len() {
+        return None;
     }
-    let start = at + 1;
-    if line.len() <= start {
-        return 0;
-    }
-    let end = words::word_end(line, start);
-    if end < line.len() {
-        return 0;
-    }
-    start
-}
-
-// The command of a path, where `@` stands at the position at which a word begins, or of another word; at 0 begins none.
-fn by_first(line: &[u8], start: usize, file: Command, other: Command) -> Command
-    ensures { result ≡ by_first line.now start file other }
-{
-    if start == 0 {
-        return Command::Desk;
-    }
-    if line.len() <= start {
-        return other;
-    }
-    if line[start] == b'@' {
-        return file;
-    }
-    other
+    Some(end - word.len())
 }
 
 // `read FORM`, after its first word.
-fn parse_read(line: &[u8], at: usize) -> Command
-    ensures { result ≡ read_command line.now (other_words (drop at line.now)) }
+fn parse_read(line: &[u8], at: usize) -> Option<Command>
+    ensures { unwrap_or result Command.Desk ≡ read_command line.now (other_words (drop at line.now)) }
 {
-    let start = last_word(line, at);
-    by_first(
-        line,
-        start,
-        Command::ReadFile(start + 1),
-        Command::Read(start),
-    )
+    let start = last_word(line, at)?;
+    if line[start] == b'@' {
+        return Some(Command::ReadFile(start + 1));
+    }
+    Some(Command::Read(start))
 }
 
 // `write` or `write @PATH`, after its first word.
-fn parse_write(line: &[u8], at: usize) -> Command
-    ensures { result ≡ write_command line.now (other_words (drop at line.now)) }
+fn parse_write(line: &[u8], at: usize) -> Option<Command>
+    ensures { unwrap_or result Command.Desk ≡ write_command line.now (other_words (drop at line.now)) }
 {
     if line.len() <= at {
-        return Command::Ask(Question::Write);
+        return Some(Command::Ask(Question::Write));
     }
-    let start = last_word(line, at);
-    by_first(
-        line,
-        start,
-        Command::Ask(Question::WriteFile(start + 1)),
-        Command::Desk,
-    )
+    let start = last_word(line, at)?;
+    if line[start] == b'@' {
+        return Some(Command::Ask(Question::WriteFile(start + 1)));
+    }
+    None
 }
 
 // `link LINK WAVELENGTH DIRECTION`, after its first word.
-fn parse_link(line: &[u8], at: usize) -> Command
-    ensures { result ≡ link_command (other_words (drop at line.now)) }
+fn parse_link(line: &[u8], at: usize) -> Option<Command>
+    ensures { unwrap_or result Command.Desk ≡ link_command (other_words (drop at line.now)) }
 {
-    let Field::Read(link, a) = words::read_field(line, at, u64::MAX) else {
-        return Command::Desk;
+    let (link, at) = words::read_field(line, at, u64::MAX)?;
+    let (wavelength, at) = words::read_field(line, at, u64::MAX)?;
+    let (direction, at) = words::read_field(line, at, u64::MAX)?;
+    let question = Question::Link {
+        link,
+        wavelength,
+        direction,
     };
-    let Field::Read(wavelength, b) = words::read_field(line, a, u64::MAX) else {
-        return Command::Desk;
-    };
-    let Field::Read(direction, end) = words::read_field(line, b, u64::MAX) else {
-        return Command::Desk;
-    };
-    at_end(
-        line,
-        end,
-        Command::Ask(Question::Link {
-            link,
-            wavelength,
-            direction,
-        }),
-    )
+    at_end(line, at, Command::Ask(question))
 }
 
-// What is asked of a plan of the grid: the wavelength at a frequency, or the frequency of a wavelength.
-fn grid_command(back: bool, spacing: u32, start: i32, last: u32) -> Command
-    ensures { result ≡ way_asked back spacing start last }
+// The numbers of `frequency SPACING START WAVELENGTH`, or of `wavelength SPACING START FREQUENCY`, after the first word.
+fn parse_grid(line: &[u8], at: usize) -> Option<(u32, i32, u32)>
+    ensures { (asked : ℕ → ℤ → ℕ → Command) → grid_asked asked result ≡ grid_command asked (other_words (drop at line.now)) }
 {
-    if back {
-        return Command::Wavelength {
+    let (spacing, at) = words::read_field(line, at, MOST_U32)?;
+    let (start, at) = words::read_signed_field(line, at)?;
+    let (last, at) = words::read_field(line, at, MOST_U32)?;
+    if at < line.len() {
+        return None;
+    }
+    Some((spacing as u32, start, last as u32))
+}
+
+// The node of `from NODE`, or of `to NODE`, after the first word.
+fn parse_node(line: &[u8], at: usize) -> Option<u8>
+    ensures { (asked : ℕ → Command) → node_asked asked result ≡ node_command asked (other_words (drop at line.now)) }
+{
+    let (node, at) = words::read_field(line, at, MOST_U8)?;
+    if at < line.len() {
+        return None;
+    }
+    Some(node as u8)
+}
+
+// What the word that ends at a position asks for, with the words after it.
+fn parse_kind(line: &[u8], at: usize) -> Option<Command>
+    requires { at ≤ length line.now }
+    ensures { unwrap_or result Command.Desk ≡ by_word Command.Desk (take at line.now) (kinds line.now (other_words (drop at line.now))) }
+{
+    let word = &line[..at];
+    if word == b"read".as_slice() {
+        return parse_read(line, at);
+    }
+    if word == b"write".as_slice() {
+        return parse_write(line, at);
+    }
+    if word == b"load".as_slice() {
+        return at_end(line, at, Command::Ask(Question::Load));
+    }
+    if word == b"link".as_slice() {
+        return parse_link(line, at);
+    }
+    if word == b"circuits".as_slice() {
+        return at_end(line, at, Command::Ask(Question::Circuits));
+    }
+    if word == b"show".as_slice() {
+        return at_end(line, at, Command::Ask(Question::Show));
+    }
+    if word == b"frequency".as_slice() {
+        let (spacing, start, wavelength) = parse_grid(line, at)?;
+        return Some(Command::Frequency {
             spacing,
             start,
-            frequency: last,
-        };
+            wavelength,
+        });
     }
-    Command::Frequency {
-        spacing,
-        start,
-        wavelength: last,
+    if word == b"wavelength".as_slice() {
+        let (spacing, start, frequency) = parse_grid(line, at)?;
+        return Some(Command::Wavelength {
+            spacing,
+            start,
+            frequency,
+        });
     }
-}
-
-// `frequency SPACING START WAVELENGTH`, or back, `wavelength SPACING START FREQUENCY`, after its first word.
-fn parse_grid(line: &[u8], at: usize, back: bool) -> Command
-    ensures { result ≡ grid_command (way_asked back) (other_words (drop at line.now)) }
-{
-    let Field::Read(spacing, a) = words::read_field(line, at, MOST_U32) else {
-        return Command::Desk;
-    };
-    let SignedField::Read(start, b) = words::read_signed_field(line, a) else {
-        return Command::Desk;
-    };
-    let Field::Read(last, end) = words::read_field(line, b, MOST_U32) else {
-        return Command::Desk;
-    };
-    let command = grid_command(back, spacing as u32, start, last as u32);
-    at_end(line, end, command)
-}
-
-// What is asked of a node: the circuits to it, or from it.
-fn node_command(to: bool, node: u8) -> Command
-    ensures { result ≡ end_asked to node }
-{
-    if to {
-        return Command::Ask(Question::To { node });
+    if word == b"tidy".as_slice() {
+        return at_end(line, at, Command::Tidy);
     }
-    Command::From { node }
+    if word == b"from".as_slice() {
+        let node = parse_node(line, at)?;
+        return Some(Command::From { node });
+    }
+    if word == b"to".as_slice() {
+        let node = parse_node(line, at)?;
+        return Some(Command::Ask(Question::To { node }));
+    }
+    if word == b"nodes".as_slice() {
+        return at_end(line, at, Command::Ask(Question::Nodes));
+    }
+    None
 }
 
-// `from NODE`, or `to NODE`, after its first word.
-fn parse_node(line: &[u8], at: usize, to: bool) -> Command
-    ensures { result ≡ node_command (end_asked to) (other_words (drop at line.now)) }
-{
-    let Field::Read(node, end) = words::read_field(line, at, MOST_U8) else {
-        return Command::Desk;
-    };
-    let command = node_command(to, node as u8);
-    at_end(line, end, command)
-}
-
-// What a line asks for, without its line end. The first words stand in the order of the arms.
+// What a line asks for, without its line end.
 pub fn parse_command(line: &[u8]) -> Command
     ensures { result ≡ command_of line.now }
 {
     if LONGEST_COMMAND < line.len() {
         return Command::Desk;
     }
-    let end = words::word_end(line, 0);
-    let kind = words::word_index(
-        &line[..end],
-        b"read write load link circuits show frequency wavelength tidy from to nodes",
-    );
-    match kind {
-        0 => parse_read(line, end),
-        1 => parse_write(line, end),
-        2 => at_end(line, end, Command::Ask(Question::Load)),
-        3 => parse_link(line, end),
-        4 => at_end(line, end, Command::Ask(Question::Circuits)),
-        5 => at_end(line, end, Command::Ask(Question::Show)),
-        6 => parse_grid(line, end, false),
-        7 => parse_grid(line, end, true),
-        8 => at_end(line, end, Command::Tidy),
-        9 => parse_node(line, end, false),
-        10 => parse_node(line, end, true),
-        11 => at_end(line, end, Command::Ask(Question::Nodes)),
-        _ => Command::Desk,
-    }
+    parse_kind(line, words::word_end(line, 0)).unwrap_or(Command::Desk)
 }

@@ -14,14 +14,11 @@ use Rattle.channels.specs.Channels.{Channels}
 use Rattle.refusals.specs.declared.Refusal.{Refusal}
 use Rattle.form.specs.Reader.{Field, got, fault, Reader, and_then}
 use Rattle.form.specs.Reading.{read_place, read_records_by, read_records}
-use Rattle.decode_record.specs.declared.SlotRead.{SlotRead}
-use Rattle.decode_record.specs.declared.SlotRead.TheVariants.{Got, Refused}
-use Rattle.decode.specs.declared.places.RecordsRead.{RecordsRead}
-use Rattle.decode_record.specs.Found.{SlotAt}
-use Rattle.decode.specs.Found.{no_records, RecordsAt}
+use Rattle.decode_record.specs.Found.{FieldAt}
+use Rattle.std.specs.Prelude.{Result}
 
 -- the bit of a place, by another test
-pub place_same : (b s : List ℕ) (l m : Bool) (r : SlotRead) → l ≡ m → SlotAt b r (read_place l s) → SlotAt b r (read_place m s)
+pub place_same : (b s : List ℕ) (l m : Bool) (r : Result (Slot × ℕ) Refusal) → l ≡ m → FieldAt b r (read_place l s) → FieldAt b r (read_place m s)
 place_same b s l m r e h = rw (← e) h
 
 -- some channels before those that are read
@@ -49,19 +46,18 @@ module _ (lit : ℕ → Bool) (b : List ℕ) (start : ℕ) where
   listing_none chs h l = record { is = after_none (read_records lit place_count 0 (drop start b)); within = h; long = l }
 
   module _ (p : ℕ) (chs : Channels) (i : ℕ) (q : Listing lit b start p chs i) where
-    module _ (h : p < place_count) (r : SlotRead) (a : SlotAt b r (read_place (lit p) (drop i b))) where
+    module _ (h : p < place_count) where
       rest : (f : Field Slot) → read_place (lit p) (drop i b) ≡ f → read_records lit place_count 0 (drop start b)
           ≡ after (take p chs) (and_then f (λ slot s. and_then (read_records lit (place_count - (p + 1)) (suc p) s) (λ chs s. got (record { slot = slot } ∷ chs) s)))
       unfolding read_records_by
       rest f g = let k : place_count - p ≡ suc (place_count - (p + 1)) = omega arith in q.is ∙ rw (k, g)
 
-      pub listing_fault : (n : Refusal) → r ≡ Refused n → read_records lit place_count 0 (drop start b) ≡ fault n
+      pub listing_fault : (n : Refusal) → read_place (lit p) (drop i b) ≡ fault n → read_records lit place_count 0 (drop start b) ≡ fault n
       unfolding after
-      listing_fault n g = rest (fault n) (rw g at a)
+      listing_fault n g = rest (fault n) g
 
-      pub listing_next : (c : Channel) (n : ℕ) → r ≡ Got c.slot n → Listing lit b start (p + 1) (set chs p c) n
-      listing_next c n g =
-          let k = rw g at a in
+      pub listing_next : (c : Channel) (n : ℕ) → (n ≤ length b) × (read_place (lit p) (drop i b) ≡ got c.slot (drop n b)) → Listing lit b start (p + 1) (set chs p c) n
+      listing_next c n k =
           let t : take (suc p) (set chs p c) ≡ take p chs ++ (c ∷ []) = take-suc-set chs p c (omega (arith, q.long)) in
           record {
             is = rest (got c.slot (drop n b)) k.1 ∙ after_one (take p chs) c (read_records lit (place_count - (p + 1)) (suc p) (drop n b)) ∙ rw (add-one, ← t);
@@ -73,11 +69,7 @@ module _ (lit : ℕ → Bool) (b : List ℕ) (start : ℕ) where
     unfolding after read_records_by
     listing_all h l = let e : p ≡ place_count = omega arith in q.is ∙ rw (e, take_all place_count chs (omega (arith, q.long)), append-nil chs)
 
--- a refusal is all that is read
-pub records_refused : (b : List ℕ) (f : Field Channels) (n : Refusal) (r : RecordsRead) → r ≡ no_records n → f ≡ fault n → RecordsAt b r f
-records_refused b f n r e h = rw e (h, refl)
-
-pub ruleset listing = (listing_none, listing_next, listing_fault, listing_all, records_refused)
+pub ruleset listing = (listing_none, listing_next, listing_fault, listing_all)
 
 -- readers that agree after a field
 then_same : {A B : Type 0} (f : Field A) (g h : A → Reader B) → ((x : A) (s : List ℕ) → g x s ≡ h x s) → and_then f g ≡ and_then f h

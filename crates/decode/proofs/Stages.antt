@@ -22,7 +22,6 @@ use Rattle.ports.proofs.Counts.{limit_zeros}
 use Rattle.refusals.specs.Answer.{verdict_answer}
 use Rattle.refusals.specs.declared.Refusal.{Refusal}
 use Rattle.refusals.specs.declared.Refusal.TheVariants.{CutShort, BadField, TrailingBytes, BrokenForm}
-use Rattle.refusals.specs.declared.Verdict.TheVariants.{Granted as granted, Refused as refused}
 use Rattle.ring.specs.Table.{meets_rules, fresh_table, with_channels}
 use Rattle.ring.specs.declared.Answered.{Answered}
 use Rattle.ring.specs.declared.RingTable.{RingTable}
@@ -32,51 +31,63 @@ use Rattle.form.specs.Reading.{answered_by, read_ports, map_bit, read_map_by, re
 use Rattle.form.proofs.Laws.{read_number, write_back}
 use Rattle.form.proofs.Fields.{Holds}
 use Rattle.form.proofs.Tables.{ports_are}
-use Rattle.decode.specs.declared.places.RecordsRead.{RecordsRead}
-use Rattle.decode.specs.Found.{RecordsAt}
-use Rattle.decode.specs.Begun.{ring_by, judged_table, Ported, Mapped}
+use Rattle.decode.specs.Begun.{ring_by, judged_table, value_of, answered, Ported, Mapped}
 use Rattle.decode.proofs.Listing.{records_same}
+use Rattle.std.specs.Prelude.{Result, Ok, Err}
 
--- a refusal on the way is the answer
-pub answer_fault : (b : List ℕ) (n : Refusal) (r : Answered) → r ≡ answered_by (fault n) → read_table b ≡ fault n → r ≡ read_of b
-unfolding read_of
-answer_fault b n r e h = e ∙ ap answered_by (sym h)
+-- a refusal on the way is what is read
+pub value_fault : (b : List ℕ) (n : Refusal) → read_table b ≡ fault n → Err n ≡ value_of (read_table b)
+value_fault b n h = rw h
 
--- a refused ring is the answer
-ring_fault_by : (b : List ℕ) (f : Field (List ℕ)) (r : Answered) (n : Refusal) → read_ports b ≡ f → r ≡ ring_by f → r.verdict ≡ refused n → r ≡ read_of b
-unfolding read_of read_table
-ring_fault_by b (got ks s) r n h e g = let z : ◌≡◌ {A = ℕ} 0 1 = cc in absurd (omega arith)
-ring_fault_by b (fault m) r n h e g = rw h e
+-- so is a refused ring
+ring_fault_by : (b : List ℕ) (f : Field (List ℕ)) (n : Refusal) → read_ports b ≡ f → ring_by f ≡ Err n → Err n ≡ value_of (read_table b)
+unfolding read_table
+ring_fault_by b (got ks s) n h e = let z : ◌≡◌ {A = ℕ} 0 1 = cc in absurd (omega arith)
+ring_fault_by b (fault m) n h e = rw h (ap as_table (sym e))
+  where
+    as_table : Result RingTable Refusal → Result RingTable Refusal
+    as_table x = x
 
-pub ring_refused : (b : List ℕ) (r : Answered) (n : Refusal) → r ≡ ring_by (read_ports b) → r.verdict ≡ refused n → r ≡ read_of b
-ring_refused b r n e g = ring_fault_by b (read_ports b) r n refl e g
+pub ring_refused : (b : List ℕ) (n : Refusal) → Err n ≡ ring_by (read_ports b) → Err n ≡ value_of (read_table b)
+ring_refused b n e = ring_fault_by b (read_ports b) n refl (sym e)
 
--- a granted one has its ports from the form
-ring_got_by : (b : List ℕ) (f : Field (List ℕ)) (r : Answered) → read_ports b ≡ f → Holds (λ ks s. b ≡ length ks ∷ (ks ++ s)) f → r ≡ ring_by f → r.verdict ≡ granted → Ported b r.table
-ring_got_by b (got ks s) r h p e g =
-    let t : r.table ≡ fresh_table (length ks) ks = ap (λ (x : Answered). x.table) e in
+-- a ring that is made has its ports from the form
+ring_got_by : (b : List ℕ) (f : Field (List ℕ)) (t : RingTable) → read_ports b ≡ f → Holds (λ ks s. b ≡ length ks ∷ (ks ++ s)) f → ring_by f ≡ Ok t → Ported b t
+ring_got_by b (got ks s) t h p e =
+    let t : t ≡ fresh_table (length ks) ks = ap (table_or t) (sym e) in
     let d : drop (1 + length ks) b ≡ s = rw p (drop_at (length ks ∷ ks) s (1 + length ks) (omega arith)) in
     record {
       ports = ks;
       read = rw (t, d) h;
       within = rw t (omega (arith, ap length p, length-append ks s));
-      table = rw t;
+      table = t;
     }
-ring_got_by b (fault n) r h p e g = let z : ◌≡◌ {A = ℕ} 0 1 = cc in absurd (omega arith)
+  where
+    table_or : RingTable → Result RingTable Refusal → RingTable
+    table_or x (Ok y) = y
+    table_or x (Err n) = x
+ring_got_by b (fault n) t h p e = let z : ◌≡◌ {A = ℕ} 0 1 = cc in absurd (omega arith)
 
-pub ring_granted : (b : List ℕ) (r : Answered) → r ≡ ring_by (read_ports b) → r.verdict ≡ granted → Ported b r.table
-ring_granted b r e g = ring_got_by b (read_ports b) r refl (ports_are b) e g
+pub ring_granted : (b : List ℕ) (t : RingTable) → Ok t ≡ ring_by (read_ports b) → Ported b t
+ring_granted b t e = ring_got_by b (read_ports b) t refl (ports_are b) (sym e)
+
+-- the answer by what is read
+answer_by_value : (f : Field RingTable) → answered (value_of f) ≡ answered_by f
+answer_by_value (got t s) = refl
+answer_by_value (fault n) = refl
+
+answer_is : (b : List ℕ) (x : Result RingTable Refusal) → x ≡ value_of (read_table b) → answered x ≡ read_of b
+unfolding read_of
+answer_is b x e = ap answered e ∙ answer_by_value (read_table b)
 
 -- a form whose reading is granted is the form of the table read
-writes_back : (b : List ℕ) → ((i : ℕ) → Fits w8 (get_or b i 0)) → (r : Answered) → r ≡ read_of b → r.verdict ≡ granted → form_of r.table ≡ b
+writes_back : (b : List ℕ) → ((i : ℕ) → Fits w8 (get_or b i 0)) → (r : Answered) → r ≡ read_of b → r.verdict ≡ Ok tt → form_of r.table ≡ b
 writes_back b h r e g = rw e (write_back b (at_all (λ x. x < 256) 0 b (λ i l. omega (arith, h i))) (rw e at g))
 
 -- all that reading promises of its answer
-pub read_says : (b : List ℕ) → ((i : ℕ) → Fits w8 (get_or b i 0)) → (r : Answered) → r ≡ read_of b
-    → (r ≡ read_of b) × ((verdict_answer r.verdict ≡ read_answer b) × (r.verdict ≡ granted → form_of r.table ≡ b))
-read_says b h r e = (e, (rw e (read_number b), writes_back b h r e))
-
-pub ruleset read_rules = (ring_refused, ring_granted)
+pub read_says : (b : List ℕ) → ((i : ℕ) → Fits w8 (get_or b i 0)) → (x : Result RingTable Refusal) → x ≡ value_of (read_table b)
+    → (answered x ≡ read_of b) × ((verdict_answer (answered x).verdict ≡ read_answer b) × ((answered x).verdict ≡ Ok tt → form_of (answered x).table ≡ b))
+read_says b h x e = let is = answer_is b x e in (is, (rw is (read_number b), writes_back b h (answered x) is))
 
 -- the map: cut short, with a bit at the limit or above, or good
 module _ (b : List ℕ) (t : RingTable) (q : Ported b t) where
@@ -115,44 +126,38 @@ module _ (b : List ℕ) (t : RingTable) (q : Ported b t) where
           }
 
 -- the table that the definition judges
-judged_is : (ks : List ℕ) (chs : Channels) → answered_by (checked_by meets_rules ks chs []) ≡ judged_table (with_channels (fresh_table (length ks) ks) chs)
+judged_is : (ks : List ℕ) (chs : Channels) → value_of (checked_by meets_rules ks chs []) ≡ judged_table (with_channels (fresh_table (length ks) ks) chs)
 unfolding checked_by judged_table
 judged_is ks chs = go (meets_rules (with_channels (fresh_table (length ks) ks) chs)) refl
   where
     go : (o : Bool) → meets_rules (with_channels (fresh_table (length ks) ks) chs) ≡ o
-        → answered_by (checked_by meets_rules ks chs []) ≡ judged_table (with_channels (fresh_table (length ks) ks) chs)
+        → value_of (checked_by meets_rules ks chs []) ≡ judged_table (with_channels (fresh_table (length ks) ks) chs)
     go true e = rw e
     go false e = rw e
 
--- the code's verdict on it
-pub judged_good : (t : RingTable) (v : Bool) → v ≡ meets_rules t → not v ≡ false → record { table = t; verdict = granted } ≡ judged_table t
+-- the code's judgement of it
+pub judged_good : (t : RingTable) (v : Bool) → v ≡ meets_rules t → not v ≡ false → Ok t ≡ judged_table t
 unfolding judged_table
 judged_good t v e h = rw (← e, not-false v h)
 
-pub judged_bad : (t : RingTable) (v : Bool) (r : Answered) → v ≡ meets_rules t → not v ≡ true → r ≡ answered_by (fault BrokenForm) → r ≡ judged_table t
+pub judged_bad : (t : RingTable) (v : Bool) → v ≡ meets_rules t → not v ≡ true → Err BrokenForm ≡ judged_table t
 unfolding judged_table
-judged_bad t v r e h g = rw (← e, not-true v h) g
+judged_bad t v e h = rw (← e, not-true v h)
 
 pub ruleset judged_rules = (judged_good, judged_bad)
 
 -- the records: refused, followed by other bytes, or the last of the form
-module _ (b : List ℕ) (t : RingTable) (lit : Lit) (q : Mapped b t lit) (x : RecordsRead) (h : RecordsAt b x (read_records (lit_bit lit) place_count 0 (drop (1 + map_width + t.nodes) b))) where
-  pub records_fault : (n : Refusal) → x.verdict ≡ refused n → read_table b ≡ fault n
-  records_fault n e = q.read ∙ rw (rw e at h).0
+module _ (b : List ℕ) (t : RingTable) (lit : Lit) (q : Mapped b t lit) where
+  pub records_fault : (n : Refusal) → read_records (lit_bit lit) place_count 0 (drop (1 + map_width + t.nodes) b) ≡ fault n → Err n ≡ value_of (read_table b)
+  records_fault n e = value_fault b n (q.read ∙ rw e)
 
-  module _ (e : x.verdict ≡ granted) where
-    pub records_within : x.at ≤ length b
-    records_within = (rw e at h).0
+  module _ (chs : Channels) (i : ℕ) (h : (i ≤ length b) × (read_records (lit_bit lit) place_count 0 (drop (1 + map_width + t.nodes) b) ≡ got chs (drop i b))) where
+    pub trailing : i < length b → Err TrailingBytes ≡ value_of (read_table b)
+    trailing l = value_fault b TrailingBytes (q.read ∙ rw (h.1, drop-cons b i 0 l))
 
-    pub trailing : x.at < length b → read_table b ≡ fault TrailingBytes
-    trailing l = q.read ∙ rw ((rw e at h).1, drop-cons b x.at 0 l)
-
-    pub all_read : length b ≤ x.at → (r : Answered) → r ≡ judged_table (with_channels t x.channels) → r ≡ read_of b
-    unfolding read_of
+    pub all_read : length b ≤ i → (r : Result RingTable Refusal) → r ≡ judged_table (with_channels t chs) → r ≡ value_of (read_table b)
     all_read l r g =
-        let s : read_table b ≡ checked_by meets_rules q.ports x.channels [] = q.read ∙ rw ((rw e at h).1, drop_of_length-le b l) in
-        g ∙ rw q.table (sym (ap answered_by s ∙ judged_is q.ports x.channels))
+        let s : read_table b ≡ checked_by meets_rules q.ports chs [] = q.read ∙ rw (h.1, drop_of_length-le b l) in
+        g ∙ rw q.table (sym (ap value_of s ∙ judged_is q.ports chs))
 
-pub ruleset end_rules = (answer_fault, records_fault, records_within, trailing, all_read)
-
-pub ruleset places_rules = (answer_fault, map_cut, map_bad, map_good)
+pub ruleset places_rules = (value_fault, map_cut, map_bad, map_good)

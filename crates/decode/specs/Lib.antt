@@ -1,3 +1,2 @@
--- What the reader has: of the records of all places, then of a form as far as it is read.
-pub mod Found
+-- What the reader has of a form as far as it is read.
 pub mod Begun

@@ -8,8 +8,6 @@ use native.Mathlib.Nat.{zero-lt-suc, one-le-pow}
 use native.Mathlib.Omega.{arith}
 use lib.ListN.{length, get_or, take, drop, length-drop}
 use lib.Seq.{drop-cons, drop-drop, length-take-le}
-use mir.Syntax.{w16}
-use mir.Val.{Fits}
 use borrow.Author.Tests.{le-leb, lt-leb, eq-eqb, ne_eqb, not-true, not-false}
 use Rattle.lightpath.specs.declared.Circuit.{Circuit}
 use Rattle.refusals.specs.declared.Refusal.{Refusal}
@@ -18,9 +16,6 @@ use Rattle.form.specs.Bytes.{number_in}
 use Rattle.form.specs.Form.{present}
 use Rattle.form.specs.Reader.{got, fault, and_then, give, ◌unless◌}
 use Rattle.form.specs.Reading.{read_optional, read_circuit}
-use Rattle.decode_record.specs.declared.optional.OptionalRead.{OptionalRead}
-use Rattle.decode_record.specs.declared.optional.OptionalRead.TheVariants.{Got, Refused}
-use Rattle.decode_record.specs.Found.{OptionalAt}
 
 -- one more byte
 pub byte_at : (b : List ℕ) (i j : ℕ) → i < length b → i + 1 ≡ j → drop i b ≡ get_or b i 0 ∷ drop j b
@@ -81,8 +76,7 @@ module _ (b : List ℕ) (i : ℕ) (m k : Bool) (l : i ≤ length b) where
   pub circuit_cut : length b - i < 6 → read_circuit m k (drop i b) ≡ fault CutShort
   circuit_cut h = short m k (drop i b) (simp length-drop (omega arith))
 
-  module _ (h : 6 ≤ length b - i) (n : ℕ) (e : n ≡ number_in (take (i + 4 - i) (drop i b)))
-      (f : OptionalRead) (a : OptionalAt 2 b f (read_optional 2 m (drop (i + 4 + 2) b))) where
+  module _ (h : 6 ≤ length b - i) (n : ℕ) (e : n ≡ number_in (take (i + 4 - i) (drop i b))) where
     begun : read_circuit m k (drop i b) ≡ and_then (read_optional 2 m (drop (i + 4 + 2) b)) (λ r s. and_then (read_optional 4 k s) (λ x. give (circuit_with b i n r x)))
     unfolding read_circuit
     begun =
@@ -96,27 +90,16 @@ module _ (b : List ℕ) (i : ℕ) (m k : Bool) (l : i ≤ length b) where
           v,
         )
 
-    pub remark_fault : (r : Refusal) → f ≡ Refused r → read_circuit m k (drop i b) ≡ fault r
-    remark_fault r g = begun ∙ rw (rw g at a)
+    pub remark_fault : (r : Refusal) → read_optional 2 m (drop (i + 4 + 2) b) ≡ fault r → read_circuit m k (drop i b) ≡ fault r
+    remark_fault r g = begun ∙ rw g
 
-    module _ (r j : ℕ) (g : f ≡ Got r j) where
-      pub remark_within : j ≤ length b
-      remark_within = (rw g at a).0
+    -- with its remark, up to position j
+    module _ (r j : ℕ) (g : read_optional 2 m (drop (i + 4 + 2) b) ≡ got r (drop j b)) where
+      remarked : read_circuit m k (drop i b) ≡ and_then (read_optional 4 k (drop j b)) (λ x. give (circuit_with b i n r x))
+      remarked = begun ∙ rw g
 
-      pub remark_fits : Fits w16 r
-      remark_fits = omega (arith, (rw g at a).1)
+      pub account_fault : (y : Refusal) → read_optional 4 k (drop j b) ≡ fault y → read_circuit m k (drop i b) ≡ fault y
+      account_fault y z = remarked ∙ rw z
 
-      module _ (o : OptionalRead) (c : OptionalAt 4 b o (read_optional 4 k (drop j b))) where
-        remarked : read_circuit m k (drop i b) ≡ and_then (read_optional 4 k (drop j b)) (λ x. give (circuit_with b i n r x))
-        remarked = begun ∙ rw (rw g at a).2
-
-        pub account_fault : (y : Refusal) → o ≡ Refused y → read_circuit m k (drop i b) ≡ fault y
-        account_fault y z = remarked ∙ rw (rw z at c)
-
-        pub circuit_got : (x t : ℕ) → o ≡ Got x t → read_circuit m k (drop i b) ≡ got (circuit_with b i n r x) (drop t b)
-        circuit_got x t z = remarked ∙ rw (rw z at c).2
-
-        pub circuit_within : (x t : ℕ) → o ≡ Got x t → t ≤ length b
-        circuit_within x t z = (rw z at c).0
-
-pub ruleset circuit_rules = (circuit_cut, remark_fault, remark_within, remark_fits, account_fault, circuit_got, circuit_within)
+      pub circuit_got : (x t : ℕ) → read_optional 4 k (drop j b) ≡ got x (drop t b) → read_circuit m k (drop i b) ≡ got (circuit_with b i n r x) (drop t b)
+      circuit_got x t z = remarked ∙ rw z

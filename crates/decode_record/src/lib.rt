@@ -7,34 +7,18 @@ mod optional;
 
 ghost use Rattle.std.specs.Prelude.{◌≡◌, ◌≤◌, length, drop};
 ghost use Rattle.form.specs.Reading.{map_holds, read_second, read_record, read_place};
-ghost use Rattle.decode_record.specs.Found.{SlotAt};
+ghost use Rattle.decode_record.specs.Found.{FieldAt};
 
-use circuit::CircuitRead;
 use lightpath::Circuit;
+use optional::stands;
 use refusals::Refusal;
 use slots::Slot;
-
-// What a place holds and the position after its record, or a refusal.
-#[derive(Clone, Copy)]
-pub enum SlotRead {
-    Got(Slot, usize),
-    Refused(Refusal),
-}
 
 // Whether a field map has no bit that may not stand.
 fn map_holds(map: u8) -> bool
     ensures { result ≡ map_holds map }
 {
-    if map < 32 {
-        if optional::stands(map, 1) {
-            return true;
-        }
-        if optional::stands(map, 2) {
-            return false;
-        }
-        return !optional::stands(map, 4);
-    }
-    false
+    map < 32 && (stands(map, 1) || !(stands(map, 2) || stands(map, 4)))
 }
 
 // Reads the second circuit of a record, if the field map says that there is one.
@@ -45,53 +29,50 @@ fn read_second(
     second: bool,
     remarked: bool,
     billed: bool,
-) -> SlotRead
+) -> Result<(Slot, usize), Refusal>
     requires { at ≤ length form.now }
-    ensures { SlotAt form.now result (read_second first second remarked billed (drop at form.now)) }
+    ensures { FieldAt form.now result (read_second first second remarked billed (drop at form.now)) }
 {
     if !second {
-        return SlotRead::Got(Slot::Alone(first), at);
+        return Ok((Slot::Alone(first), at));
     }
-    match circuit::read_circuit(form, at, remarked, billed) {
-        CircuitRead::Refused(refusal) => SlotRead::Refused(refusal),
-        CircuitRead::Got(circuit, next) => SlotRead::Got(Slot::Shared(first, circuit), next),
-    }
+    let (circuit, next) = circuit::read_circuit(form, at, remarked, billed)?;
+    Ok((Slot::Shared(first, circuit), next))
 }
 
 // Reads the record of a lit place.
-fn read_record(form: &[u8], at: usize) -> SlotRead
+fn read_record(form: &[u8], at: usize) -> Result<(Slot, usize), Refusal>
     requires { at ≤ length form.now }
-    ensures { SlotAt form.now result (read_record (drop at form.now)) }
+    ensures { FieldAt form.now result (read_record (drop at form.now)) }
 {
     if form.len() <= at {
-        return SlotRead::Refused(Refusal::CutShort);
+        return Err(Refusal::CutShort);
     }
     let map = form[at];
     if !map_holds(map) {
-        return SlotRead::Refused(Refusal::BadField);
+        return Err(Refusal::BadField);
     }
-    let remarked = optional::stands(map, 0);
-    let billed = optional::stands(map, 3);
-    match circuit::read_circuit(form, at + 1, remarked, billed) {
-        CircuitRead::Refused(refusal) => SlotRead::Refused(refusal),
-        CircuitRead::Got(first, next) => read_second(
-            form,
-            next,
-            first,
-            optional::stands(map, 1),
-            optional::stands(map, 2),
-            optional::stands(map, 4),
-        ),
-    }
+    let remarked = stands(map, 0);
+    let billed = stands(map, 3);
+    let (first, next) = circuit::read_circuit(form, at + 1, remarked, billed)?;
+    read_second(
+        form,
+        next,
+        first,
+        stands(map, 1),
+        stands(map, 2),
+        stands(map, 4),
+    )
 }
 
-// Reads what a place holds, which has a record only if it is lit.
-pub fn read_place(form: &[u8], at: usize, lit: bool) -> SlotRead
+// Reads what a place holds, which has a record only if it is lit, and gives the position after its record.
+pub fn read_place(form: &[u8], at: usize, lit: bool) -> Result<(Slot, usize), Refusal>
     requires { at ≤ length form.now }
-    ensures { SlotAt form.now result (read_place lit (drop at form.now)) }
+    ensures { FieldAt form.now result (read_place lit (drop at form.now)) }
 {
     if lit {
-        return read_record(form, at);
+        read_record(form, at)
+    } else {
+        Ok((Slot::Unlit, at))
     }
-    SlotRead::Got(Slot::Unlit, at)
 }

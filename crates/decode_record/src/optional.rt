@@ -8,13 +8,6 @@ ghost use Rattle.decode_record.specs.Found.{OptionalAt};
 
 use refusals::Refusal;
 
-// An optional field and the position after it, or a refusal.
-#[derive(Clone, Copy)]
-pub enum OptionalRead {
-    Got(u32, usize),
-    Refused(Refusal),
-}
-
 // Whether a bit of a field map stands, 0 being the lowest.
 pub fn stands(map: u8, bit: u8) -> bool
     requires { bit < 8 }
@@ -23,21 +16,26 @@ pub fn stands(map: u8, bit: u8) -> bool
     (map >> bit) % 2 == 1
 }
 
-// Reads an optional field of so many bytes, if its bit of the field map stands.
-pub fn read_optional(form: &[u8], at: usize, width: usize, stands: bool) -> OptionalRead
+// Reads an optional field of so many bytes, if its bit of the field map stands, and gives the position after it.
+pub fn read_optional(
+    form: &[u8],
+    at: usize,
+    width: usize,
+    stands: bool,
+) -> Result<(u32, usize), Refusal>
     requires { (at ≤ length form.now) × (width ≤ most_bytes) }
     ensures { OptionalAt width form.now result (read_optional width stands (drop at form.now)) }
 {
     if !stands {
-        return OptionalRead::Got(0, at);
+        return Ok((0, at));
     }
     if form.len() - at < width {
-        return OptionalRead::Refused(Refusal::CutShort);
+        return Err(Refusal::CutShort);
     }
     let next = at + width;
     let value = byte_numbers::number_of(&form[at..next]);
     if value == 0 {
-        return OptionalRead::Refused(Refusal::BadField);
+        return Err(Refusal::BadField);
     }
-    OptionalRead::Got(value, next)
+    Ok((value, next))
 }

@@ -14,19 +14,19 @@ use Rattle.refusals.specs.Answer.{refusal, some_given}
 use Rattle.ring.specs.Table.{meets_rules}
 use Rattle.ring.specs.Answer.{opening_answer}
 use Rattle.ring.specs.Demand3.{reasons, Refused3}
-use Rattle.ring.specs.Opening.{decide_of}
+use Rattle.ring.specs.Opening.{decide_of, Opening}
 use Rattle.ring.specs.declared.Decision.{Decision}
-use Rattle.ring.specs.declared.Opening.{Opening}
-use Rattle.ring.specs.declared.Opening.TheVariants.{Taken as taken, Refused as not_opened}
 use Rattle.ring.proofs.Demand.{demand3, answered}
 use Rattle.print.specs.Answers.{refused_line, open_line}
-use Rattle.desk.specs.Desk.{Desk, DeskState, Ran, desk_of, Keeps, Outcome, run_open, run_line, CanRun, HasRun}
+use Rattle.roster.specs.declared.Heading.{Heading}
+use Rattle.desk.specs.Desk.{Desk, Ran, desk_of, Keeps, Outcome, run_open, run_line, CanRun, HasRun}
 use Rattle.desk.specs.Demand3.{Refuses, Serves, OpensBy, Opens, left_by}
+use Rattle.std.specs.Prelude.{Option, Some, None, Err, Ok}
 
 -- an opening that answers by a refusal prints its number
 refusal_line : (n m : ℕ) (a : Opening) → opening_answer a ≡ refusal m → open_line n a ≡ refused_line n m
-refusal_line n m (taken p k looks) e = absurd (omega (arith, ap (λ x. length x.values) e))
-refusal_line n m (not_opened r) e = rw (ap (λ x. x.number) e)
+refusal_line n m (Ok _) e = absurd (omega (arith, ap (λ x. length x.values) e))
+refusal_line n m (Err r) e = rw (ap (λ x. x.number) e)
 
 module _ (d : Desk) (c : Circuit) (ready : d.ready ≡ true) (rules : meets_rules d.table ≡ true) where
   abbrev decision : Decision
@@ -37,20 +37,20 @@ module _ (d : Desk) (c : Circuit) (ready : d.ready ≡ true) (rules : meets_rule
   serves g = go decision.opened.answer refl
     where
       go : (o : Opening) → decision.opened.answer ≡ o → Serves d c (run_open d c)
-      go (taken p k looks) e =
-          let held = answered d.table c 3 rules p k looks e in
+      go (Ok x) e =
+          let held = answered d.table c 3 rules x.place x.moves x.looks e in
           record {
             table = decision.opened.table;
-            place = p.0;
-            moves = k;
-            looks = looks;
+            place = x.place.0;
+            moves = x.moves;
+            looks = x.looks;
             records = listed decision.moves;
             demand3 = held.0;
             values = held.1;
             desk = rw ready;
             text = rw (ready, e);
           }
-      go (not_opened r) e =
+      go (Err r) e =
           let held = (demand3 d.table c 3 rules).served g in
           absurd (omega (arith, ap (λ x. length (opening_answer x).values) e, ap (λ x. length x.values) held.3))
 
@@ -82,15 +82,16 @@ pub left_is : (o : Outcome) (l : List ℕ) (at : ℕ) (keys rests l' : List ℕ)
 left_is o l at keys rests l' r e p h i = record { desk = e i; text = put_text l o.text l' at r.next p h i }
 
 -- each line that asks for an opening
-pub line_opens : (d : DeskState) (keys rests line : List ℕ) → Keeps d keys rests → Opens (desk_of d keys rests) line (run_line (desk_of d keys rests) line)
-line_opens d keys rests line keeps = record { each = λ c e ready. rw e (opens_by (desk_of d keys rests) c ready (meets ready)) }
+pub line_opens : (d : Option Heading) (keys rests line : List ℕ) → Keeps d keys rests → Opens (desk_of d keys rests) line (run_line (desk_of d keys rests) line)
+line_opens d keys rests line keeps = record { each = λ c e ready. rw e (opens_by (desk_of d keys rests) c ready (meets d keeps ready)) }
   where
-    meets : d.ready ≡ true → meets_rules (desk_of d keys rests).table ≡ true
-    meets h = rw h (keeps.held h).holds.rules
+    meets : (s : Option Heading) → Keeps s keys rests → (desk_of s keys rests).ready ≡ true → meets_rules (desk_of s keys rests).table ≡ true
+    meets (Some h) k e = (k.held h refl).holds.rules
+    meets None k e = let z : ◌≡◌ {A = ℕ} 0 1 = cc in absurd (omega arith)
 
 -- Demand 3: what a line that asks for an opening leaves and prints is the table, place, moves, looks and records of which demand 3 holds, and
 -- the tables are equal exactly when there is a reason
-pub opens : (d : DeskState) (keys rests line l : List ℕ) (at : ℕ) (keys' rests' l' : List ℕ) (r : Ran) → CanRun d keys rests l at
+pub opens : (d : Option Heading) (keys rests line l : List ℕ) (at : ℕ) (keys' rests' l' : List ℕ) (r : Ran) → CanRun d keys rests l at
     → HasRun (run_line (desk_of d keys rests) line) l at keys' rests' l' r → Opens (desk_of d keys rests) line (left_by at keys' rests' l' r)
 opens d keys rests line l at keys' rests' l' r s h =
     rw (left_is (run_line (desk_of d keys rests) line) l at keys' rests' l' r h.desk h.text.put (omega (arith, h.text.short, s.room)))

@@ -1,13 +1,11 @@
 -- The desk of a script, and what one line does and prints: document 01, "The script program and its cases". Assumes nothing.
 -- What `run_line` promises.
-use Rattle.std.specs.Prelude.{ℕ, ◌+◌, ◌≤◌, ◌≡◌, Bool, true, false, List, ◌++◌, length, take}
+use Rattle.std.specs.Prelude.{ℕ, ◌+◌, ◌≤◌, ◌≡◌, Bool, true, false, List, ◌++◌, length, take, Option, Some, None, Ok, Err}
 use Rattle.basis.specs.Choice.{pick}
 use Rattle.limits.specs.Limits.{most_circuits, least_records}
 use Rattle.lightpath.specs.declared.Circuit.{Circuit}
 use Rattle.moves.specs.Records.{listed}
 use Rattle.ports.specs.Ports.{wavelengths}
-use Rattle.refusals.specs.declared.Verdict.{Verdict}
-use Rattle.refusals.specs.declared.Verdict.TheVariants.{Granted as granted, Refused as refused}
 use Rattle.ring.specs.Table.{blank_table}
 use Rattle.ring.specs.Making.{make_of}
 use Rattle.ring.specs.Opening.{decide_of}
@@ -20,8 +18,9 @@ use Rattle.requests.specs.declared.Request.TheVariants.{Ring, Open, Close, Bad}
 use Rattle.requests.specs.Line.{parse_line}
 use Rattle.buffer.specs.Put.{Printed}
 use Rattle.print.specs.Answers.{line_refused, ring_line, close_line, open_line, move_lines, opening_room}
-pub use Rattle.desk.specs.declared.DeskState.{DeskState}
+use Rattle.roster.specs.declared.Heading.{Heading}
 pub use Rattle.desk.specs.declared.Ran.{Ran}
+use Rattle.refusals.specs.Refusal.{Verdict}
 
 -- the desk: whether a ring was accepted, and its table
 pub record Desk : Type 0 where
@@ -36,14 +35,15 @@ empty_desk = record { ready = false; table = blank_table }
 abbrev pub desk_with : RingTable → Desk
 desk_with t = record { ready = true; table = t }
 
--- the desk that a state, keys and rests are: its table is the one of the heading, the keys and the rests (02, E7)
-abbrev pub desk_of : DeskState → List ℕ → List ℕ → Desk
-desk_of s keys rests = record { ready = s.ready; table = pick s.ready (table_in s.heading keys rests) blank_table }
+-- the desk that the heading of an accepted ring, keys and rests are: its table is the one of the heading, the keys and the rests (02, E7)
+abbrev pub desk_of : Option Heading → List ℕ → List ℕ → Desk
+desk_of (Some h) keys rests = desk_with (table_in h keys rests)
+desk_of None keys rests = empty_desk
 
 -- the keys and rests are a roster's, and hold the table of an accepted ring, which meets the ring rules; before there is one they are blank
-pub record Keeps (s : DeskState) (keys rests : List ℕ) : Type 0 where
-  pub held : s.ready ≡ true → HoldsTable (table_in s.heading keys rests) s.heading keys rests
-  pub blank : s.ready ≡ false → record { keys = keys; rests = rests; heading = s.heading } ≡ blank_roster
+pub record Keeps (s : Option Heading) (keys rests : List ℕ) : Type 0 where
+  pub held : (h : Heading) → s ≡ Some h → HoldsTable (table_in h keys rests) h keys rests
+  pub blank : s ≡ None → (keys ≡ blank_roster.keys) × (rests ≡ blank_roster.rests)
   pub long_keys : length keys ≡ most_circuits
   pub long_rests : length rests ≡ most_circuits
 
@@ -58,8 +58,8 @@ refuse d = record { desk = d; text = line_refused }
 
 -- "A refused ring keeps the old table"
 abbrev pub desk_after : Desk → RingTable → Verdict → Desk
-desk_after d t granted = desk_with t
-desk_after d t (refused r) = d
+desk_after d t (Ok _) = desk_with t
+desk_after d t (Err r) = d
 
 -- "`ring N k..`"
 unfoldable pub run_ring : Desk → ℕ → List ℕ → Outcome
@@ -96,7 +96,7 @@ abbrev pub answer_room : ℕ
 answer_room = opening_room
 
 -- what running a line asks for: keys and rests that hold the desk's table, and room for the answer
-pub record CanRun (s : DeskState) (keys rests l : List ℕ) (at : ℕ) : Type 0 where
+pub record CanRun (s : Option Heading) (keys rests l : List ℕ) (at : ℕ) : Type 0 where
   pub keeps : Keeps s keys rests
   pub room : at + answer_room ≤ length l
 

@@ -17,7 +17,7 @@ use Rattle.ring.specs.declared.RingTable.{RingTable}
 use Rattle.ring.proofs.TableRules.{few_nodes}
 use Rattle.buffer.specs.Put.{Room, Put}
 use Rattle.form.specs.Form.{form_of}
-use Rattle.encode.specs.declared.Written.TheVariants.{Length, Refused}
+use Rattle.std.specs.Prelude.{Ok, Err}
 use Rattle.encode.specs.Answer.{written_of, write_reasons, bytes_after}
 
 -- the answer in 01's numbers, of lent bytes l
@@ -26,7 +26,7 @@ numbers_of t l = answer_by (write_reasons t (length l)) (length (form_of t) ∷ 
 
 -- the table breaks a ring rule
 module _ (t : RingTable) (l : List ℕ) (v : Bool) (e : v ≡ meets_rules t) (h : not v ≡ true) where
-  pub broken : Refused BrokenRule ≡ written_of t (length l)
+  pub broken : Err BrokenRule ≡ written_of t (length l)
   unfolding written_of
   broken = rw (← e, not-true v h)
 
@@ -45,7 +45,7 @@ module _ (t : RingTable) (l : List ℕ) (m : meets_rules t ≡ true) where
       less : ltb (length l) (length (form_of t)) ≡ true
       less = lt-ltb (length l) (length (form_of t)) (omega arith)
 
-      pub short : Refused ShortBuffer ≡ written_of t (length l)
+      pub short : Err ShortBuffer ≡ written_of t (length l)
       unfolding written_of
       short = rw (m, less)
 
@@ -64,7 +64,7 @@ module _ (t : RingTable) (l : List ℕ) (m : meets_rules t ≡ true) where
       pub form_room_lem : Room l 0 (form_of t)
       form_room_lem = record { fits = omega arith }
 
-      pub written : Length n ≡ written_of t (length l)
+      pub written : Ok n ≡ written_of t (length l)
       unfolding written_of
       written = rw (m, enough, g)
 

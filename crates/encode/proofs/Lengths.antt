@@ -54,6 +54,6 @@ sum : (t : RingTable) (ones n : ℕ) → length t.ports ≡ 64 → t.nodes ≤ 6
     → n + ones_of (lit_of t.channels) ≡ length (records_bytes t.channels) → 17 + t.nodes + ones + n ≡ length (form_of t)
 sum t ones n e h g m = omega (arith, form_length t (omega arith))
 
-pub form_long : (t : RingTable) (lit : Lit) (ones n : ℕ) → length t.ports ≡ 64 → t.nodes ≤ 64 → lit ≡ lit_of t.channels
-    → ones ≡ ones_of lit → n + ones_of (lit_of t.channels) ≡ length (records_bytes t.channels) → 17 + t.nodes + ones + n ≡ length (form_of t)
-form_long t lit ones n e h g c m = sum t ones n e h (c ∙ rw g) m
+pub form_long : (t : RingTable) (lit : Lit) (nodes ones n : ℕ) → nodes ≡ t.nodes → length t.ports ≡ 64 → t.nodes ≤ 64 → lit ≡ lit_of t.channels
+    → ones ≡ ones_of lit → n + ones_of (lit_of t.channels) ≡ length (records_bytes t.channels) → 17 + nodes + ones + n ≡ length (form_of t)
+form_long t lit nodes ones n k e h g c m = rw k (sum t ones n e h (c ∙ rw g) m)

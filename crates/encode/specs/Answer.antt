@@ -1,16 +1,13 @@
 -- 01, "Saved form" and "Order": what writing answers, and what it leaves in the lent bytes. Assumes nothing.
 -- What `write` and `write_valid` promise.
-use Rattle.std.specs.Prelude.{ℕ, not, List, [], ◌∷◌, ◌++◌, ltb, length, drop}
-use Rattle.refusals.specs.Refusal.{number_of, Cause, ◌if◌, judged}
+use Rattle.std.specs.Prelude.{ℕ, not, List, [], ◌∷◌, ◌++◌, ltb, length, drop, Result, Ok, Err}
+use Rattle.refusals.specs.Refusal.{number_of, Cause, ◌if◌, judged, Verdict}
 use Rattle.refusals.specs.Answer.{Answer, refusal, done, Reason, ◌when◌}
+use Rattle.refusals.specs.declared.Refusal.{Refusal}
 use Rattle.refusals.specs.declared.Refusal.TheVariants.{ShortBuffer, BrokenRule}
-use Rattle.refusals.specs.declared.Verdict.{Verdict}
-use Rattle.refusals.specs.declared.Verdict.TheVariants.{Granted as granted, Refused as refused}
 use Rattle.ring.specs.Table.{meets_rules}
 use Rattle.ring.specs.declared.RingTable.{RingTable}
 use Rattle.form.specs.Form.{form_of}
-use Rattle.encode.specs.declared.Written.{Written}
-use Rattle.encode.specs.declared.Written.TheVariants.{Length, Refused}
 
 -- with n lent bytes: 22, 21
 abbrev pub write_causes : RingTable → ℕ → List Cause
@@ -21,22 +18,22 @@ abbrev pub write_reasons : RingTable → ℕ → List Reason
 write_reasons t n = (22 when not (meets_rules t)) ∷ (21 when ltb n (length (form_of t))) ∷ []
 
 -- writing answers with the form's length
-abbrev pub written_by : RingTable → Verdict → Written
-written_by t granted = Length (length (form_of t))
-written_by t (refused r) = Refused r
+abbrev pub written_by : RingTable → Verdict → Result ℕ Refusal
+written_by t (Ok _) = Ok (length (form_of t))
+written_by t (Err r) = Err r
 
-unfoldable pub written_of : RingTable → ℕ → Written
+unfoldable pub written_of : RingTable → ℕ → Result ℕ Refusal
 written_of t n = written_by t (judged (write_causes t n))
 
 -- and leaves the lent bytes after the form; on a refusal all of them
 abbrev pub bytes_by : RingTable → List ℕ → Verdict → List ℕ
-bytes_by t l granted = form_of t ++ drop (length (form_of t)) l
-bytes_by t l (refused r) = l
+bytes_by t l (Ok _) = form_of t ++ drop (length (form_of t)) l
+bytes_by t l (Err r) = l
 
 unfoldable pub bytes_after : RingTable → List ℕ → List ℕ
 bytes_after t l = bytes_by t l (judged (write_causes t (length l)))
 
 -- 01's number and values of each answer: the form's length, or the refusal's number alone
-abbrev pub written_answer : Written → Answer
-written_answer (Length n) = done (n ∷ [])
-written_answer (Refused r) = refusal (number_of r)
+abbrev pub written_answer : Result ℕ Refusal → Answer
+written_answer (Ok n) = done (n ∷ [])
+written_answer (Err r) = refusal (number_of r)

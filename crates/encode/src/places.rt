@@ -12,28 +12,24 @@ use channels::Channel;
 use limits::PLACE_COUNT;
 
 // How many bytes all circuits take; the records are longer by the number of lit places.
-pub fn circuits_length(channels: [Channel; PLACE_COUNT]) -> usize
-    ensures { (result + ones_of (lit_of channels) ≡ length (records_bytes channels)) × (result ≤ circuit_room * circuit_most) }
+pub fn circuits_length(channels: &[Channel; PLACE_COUNT]) -> usize
+    ensures { (result + ones_of (lit_of channels.now) ≡ length (records_bytes channels.now)) × (result ≤ circuit_room * circuit_most) }
 {
     let mut sum: usize = 0;
-    for place in 0..PLACE_COUNT {
-        let channel = channels[place];
-        let slot = channel.slot;
-        sum += encode_record::slot_length(slot);
+    for channel in channels {
+        sum += encode_record::slot_length(channel.slot);
     }
     sum
 }
 
 // Writes the records by rising place.
-pub fn put_records(out: &mut [u8], start: usize, channels: [Channel; PLACE_COUNT]) -> usize
-    requires { Room out.old start (records_bytes channels) }
-    ensures { Put out.old start (records_bytes channels) out.new result }
+pub fn put_records(out: &mut [u8], start: usize, channels: &[Channel; PLACE_COUNT]) -> usize
+    requires { Room out.old start (records_bytes channels.now) }
+    ensures { Put out.old start (records_bytes channels.now) out.new result }
 {
     let mut at = start;
-    for place in 0..PLACE_COUNT {
-        let channel = channels[place];
-        let slot = channel.slot;
-        at = encode_record::put_record(out, at, slot);
+    for channel in channels {
+        at = encode_record::put_record(out, at, channel.slot);
     }
     at
 }

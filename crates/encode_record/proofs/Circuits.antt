@@ -37,8 +37,8 @@ pub ruleset optional_rules = (none_put, optional_room, optional_put)
 pub wide_four : (n : ℕ) → n < 4294967296 → Wide number_width n
 wide_four n h = record { some = omega arith; most = omega arith; fits = h }
 
-pub wide_two : (n : ℕ) → n < 65536 → Wide remark_width n
-wide_two n h = record { some = omega arith; most = omega arith; fits = h }
+pub wide_two : (n m : ℕ) → n ≡ m → m < 65536 → Wide remark_width n
+wide_two n m e h = record { some = omega arith; most = omega arith; fits = omega arith }
 
 -- the fields that every circuit has: number, source, destination
 module _ (c : Circuit) (l : List ℕ) (i : ℕ) (h : Room l i (plain_fields c)) where
@@ -63,15 +63,15 @@ module _ (c : Circuit) (l : List ℕ) (i : ℕ) (h : Room l i (plain_fields c)) 
 pub ruleset plain_rules = (wide_four, number_room_lem, source_room, destination_room, plain_put)
 
 -- those that one may be without: remark, account
-module _ (c : Circuit) (l : List ℕ) (i : ℕ) (h : Room l i (optional_fields c)) where
-  fields_begun : Putting l i (optional_fields c) l i (optional_bytes remark_width c.remark) (optional_bytes account_width c.account ∷ [])
+module _ (c : Circuit) (v : ℕ) (e : v ≡ c.remark) (l : List ℕ) (i : ℕ) (h : Room l i (optional_fields c)) where
+  fields_begun : Putting l i (optional_fields c) l i (optional_bytes remark_width v) (optional_bytes account_width c.account ∷ [])
   unfolding optional_fields
-  fields_begun = start _ _ refl h
+  fields_begun = start _ _ (rw e) h
 
-  pub remark_room : Room l i (optional_bytes remark_width c.remark)
+  pub remark_room : Room l i (optional_bytes remark_width v)
   remark_room = first fields_begun
 
-  module _ (l1 : List ℕ) (n1 : ℕ) (q1 : Put l i (optional_bytes remark_width c.remark) l1 n1) where
+  module _ (l1 : List ℕ) (n1 : ℕ) (q1 : Put l i (optional_bytes remark_width v) l1 n1) where
     pub account_room : Room l1 n1 (optional_bytes account_width c.account)
     account_room = first (then q1 fields_begun)
 

@@ -26,13 +26,14 @@ there_long width v h = rw (ne_eqb v 0 h) (sym (high_long width v))
 pub ruleset optional_lengths = (none_long, there_long)
 
 -- a circuit takes six bytes, and those of its optional fields
-pub circuit_long : (c : Circuit) (n m : ℕ) → n ≡ length (optional_bytes remark_width c.remark) → m ≡ length (optional_bytes account_width c.account)
+pub circuit_long : (c : Circuit) (v n m : ℕ) → v ≡ c.remark → n ≡ length (optional_bytes remark_width v) → m ≡ length (optional_bytes account_width c.account)
     → 6 + n + m ≡ length (circuit_bytes c)
 unfolding circuit_bytes
-circuit_long c n m e g =
+circuit_long c v n m k e g =
     let number : List ℕ = high_first number_width c.number in
     let remark : List ℕ = optional_bytes remark_width c.remark in
     let account : List ℕ = optional_bytes account_width c.account in
+    let f : n ≡ length remark = rw k at e in
     omega (
       arith,
       length-append number (c.source ∷ c.destination ∷ (remark ++ account)),

@@ -14,7 +14,7 @@ use lightpath::Circuit;
 pub fn circuit_length(circuit: Circuit) -> usize
     ensures { (result ≡ length (circuit_bytes circuit)) × (result ≤ circuit_most) }
 {
-    let remark = optional::optional_length(circuit.remark as u32, REMARK_WIDTH);
+    let remark = optional::optional_length(u32::from(circuit.remark), REMARK_WIDTH);
     let account = optional::optional_length(circuit.account, ACCOUNT_WIDTH);
     PLAIN_WIDTH + remark + account
 }
@@ -34,7 +34,7 @@ fn put_optional_fields(out: &mut [u8], at: usize, circuit: Circuit) -> usize
     requires { Room out.old at (optional_fields circuit) }
     ensures { Put out.old at (optional_fields circuit) out.new result }
 {
-    let account = optional::put_optional(out, at, circuit.remark as u32, REMARK_WIDTH);
+    let account = optional::put_optional(out, at, u32::from(circuit.remark), REMARK_WIDTH);
     optional::put_optional(out, account, circuit.account, ACCOUNT_WIDTH)
 }
 

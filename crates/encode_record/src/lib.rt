@@ -30,14 +30,15 @@ pub fn slot_length(slot: Slot) -> usize
 fn alone_map(a: Circuit) -> u8
     ensures { result ≡ field_map (field_bits (Slot.Alone a)) }
 {
-    optional::present(a.remark as u32) + 8 * optional::present(a.account)
+    optional::present(u32::from(a.remark)) + 8 * optional::present(a.account)
 }
 
 // The field map of a place with two circuits.
 fn shared_map(a: Circuit, b: Circuit) -> u8
     ensures { result ≡ field_map (field_bits (Slot.Shared a b)) }
 {
-    let remarks = optional::present(a.remark as u32) + 4 * optional::present(b.remark as u32);
+    let remarks = optional::present(u32::from(a.remark))
+        + 4 * optional::present(u32::from(b.remark));
     let accounts = optional::present(a.account) + 2 * optional::present(b.account);
     remarks + 2 + 8 * accounts
 }

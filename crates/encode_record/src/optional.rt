@@ -10,20 +10,14 @@ ghost use Rattle.byte_numbers.specs.Widths.{Wide};
 pub fn present(value: u32) -> u8
     ensures { (result ≡ bit (Form·present value)) × (result ≤ 1) }
 {
-    if value == 0 {
-        return 0;
-    }
-    1
+    u8::from(value != 0)
 }
 
 // How many bytes an optional field takes.
 pub fn optional_length(value: u32, width: usize) -> usize
     ensures { (result ≡ length (optional_bytes width value)) × (result ≤ width) }
 {
-    if value == 0 {
-        return 0;
-    }
-    width
+    if value == 0 { 0 } else { width }
 }
 
 // Writes an optional field of so many bytes, where it is there.
@@ -32,7 +26,8 @@ pub fn put_optional(out: &mut [u8], at: usize, value: u32, width: usize) -> usiz
     ensures { Put out.old at (optional_bytes width value) out.new result }
 {
     if value == 0 {
-        return at;
+        at
+    } else {
+        byte_numbers::put_number(out, at, value, width)
     }
-    byte_numbers::put_number(out, at, value, width)
 }

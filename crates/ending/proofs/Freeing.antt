@@ -17,10 +17,8 @@ use Rattle.channels.specs.Channels.{live, circuits, numbered, circuit_of}
 use Rattle.channels.proofs.Numbers.{holds_each}
 use Rattle.ports.specs.Ports.{ports_at}
 use Rattle.ports_used.specs.PortsUsed.{sends, receives, free_transmitter, free_receiver}
-use Rattle.refusals.specs.Refusal.{◌if◌, judged}
+use Rattle.refusals.specs.Refusal.{◌if◌, judged, Verdict}
 use Rattle.refusals.specs.declared.Refusal.TheVariants.{NumberLive, NoTransmitter, NoReceiver}
-use Rattle.refusals.specs.declared.Verdict.{Verdict}
-use Rattle.refusals.specs.declared.Verdict.TheVariants.{Granted as granted, Refused as refused}
 use Rattle.refusals.proofs.Judged.{none_holds, judged_past}
 use Rattle.causes.specs.Causes.{named_causes}
 use Rattle.ring.specs.Table.{meets_rules}
@@ -32,19 +30,20 @@ use Rattle.ring.proofs.Deciding.{decided}
 use Rattle.ring.proofs.Closing.{TakenOff, close_takes, close_rules}
 use Rattle.ending.specs.Ending.{is_served, answer_to, frees}
 use Rattle.ending.specs.Search.{helps_by}
+use Rattle.std.specs.Prelude.{Ok, Err}
 
 -- a verdict that grants
 abbrev pub grants : Verdict → Bool
-grants granted = true
-grants (refused r) = false
+grants (Ok _) = true
+grants (Err r) = false
 
 -- an opening is served where no cause meets its request
 pub served_granted : (t : RingTable) (c : Circuit) → meets_rules t ≡ true → is_served (answer_to t c) ≡ grants (judged (request_causes t c))
 served_granted t c rules = ap (λ d. is_served d.opened.answer) (decided t c least_records rules (judged (request_causes t c)) refl) ∙ by (judged (request_causes t c))
   where
     by : (v : Verdict) → is_served (decided_by t c v).opened.answer ≡ grants v
-    by granted = refl
-    by (refused r) = refl
+    by (Ok _) = refl
+    by (Err r) = refl
 
 -- a port that is free, or that one of as many as there are gives up
 freed : (before after ports : ℕ) (gone : Bool) → after + bit gone ≡ before → before ≤ ports → ltb after ports ≡ (ltb before ports || gone)
@@ -69,7 +68,7 @@ module _ (t : RingTable) (rules : meets_rules t ≡ true) where
       (table_rules t rules).ports j (omega (arith, l.fields, l.most, leb-true (suc j) t.nodes (and_right (leb 1 (suc j)) _ h)))
 
   -- a request that names two nodes of the ring and a number that is not live
-  module _ (c : Circuit) (named : judged (named_causes t.nodes c) ≡ granted) (unused : live t.channels c.number ≡ false) where
+  module _ (c : Circuit) (named : judged (named_causes t.nodes c) ≡ Ok tt) (unused : live t.channels c.number ≡ false) where
     -- both nodes are on the ring
     ends : (on_ring t.nodes c.source ≡ true) × (on_ring t.nodes c.destination ≡ true)
     ends =

@@ -9,11 +9,9 @@ use Rattle.lightpath.specs.Circuit.{on_ring}
 use Rattle.lightpath.specs.declared.Circuit.{Circuit}
 use Rattle.channels.specs.Channels.{live}
 use Rattle.ports_used.specs.PortsUsed.{free_transmitter, free_receiver}
-use Rattle.refusals.specs.Refusal.{Cause, ◌if◌, judged, number_of}
+use Rattle.refusals.specs.Refusal.{Cause, ◌if◌, judged, number_of, Verdict}
 use Rattle.refusals.specs.declared.Refusal.{Refusal}
 use Rattle.refusals.specs.declared.Refusal.TheVariants.{OffRing, SameNode, NumberLive, NoTransmitter, NoReceiver, BrokenRule}
-use Rattle.refusals.specs.declared.Verdict.{Verdict}
-use Rattle.refusals.specs.declared.Verdict.TheVariants.{Granted as granted, Refused as refused}
 use Rattle.causes.specs.Causes.{named_causes}
 use Rattle.ring.specs.Table.{meets_rules}
 use Rattle.ring.specs.Opening.{refusing, request_causes, decided_by, decide_of}
@@ -22,11 +20,12 @@ use Rattle.ring.specs.declared.RingTable.{RingTable}
 use Rattle.ring.proofs.Deciding.{decide_unmet, decided}
 use Rattle.ending.specs.Ending.{Ending, not_asked, answer_to, lacks_port, who_ends, reply, ending_of}
 use Rattle.ending.specs.Search.{ending_by}
+use Rattle.std.specs.Prelude.{Ok, Err}
 
 -- a verdict is for want of a port
 abbrev pub wants_port : Verdict → Bool
-wants_port granted = false
-wants_port (refused r) = eqb (number_of r) 13 || eqb (number_of r) 14
+wants_port (Ok _) = false
+wants_port (Err r) = eqb (number_of r) 13 || eqb (number_of r) 14
 
 -- the answer by what is decided
 abbrev from : RingTable → Circuit → Decision → Ending
@@ -49,8 +48,8 @@ module _ (t : RingTable) (c : Circuit) where
   ending_verdict rules v e = ending_from (decided_by t c v) (decided t c least_records rules v e) ∙ by v
     where
       by : (v : Verdict) → from t c (decided_by t c v) ≡ ending_by t c v
-      by granted = refl
-      by (refused r) = refl
+      by (Ok _) = refl
+      by (Err r) = refl
 
   -- the causes that meet a request, each by itself
   abbrev off : Bool
@@ -67,22 +66,22 @@ module _ (t : RingTable) (c : Circuit) where
   -- live
   pub record Lacking : Type 0 where
     pub rules : meets_rules t ≡ true
-    pub named : judged (named_causes t.nodes c) ≡ granted
+    pub named : judged (named_causes t.nodes c) ≡ Ok tt
     pub unused : live t.channels c.number ≡ false
 
   pub lacking : lacks_port (answer_to t c) ≡ true → Lacking
   lacking h = go (meets_rules t) refl
     where
       past : (a b l : Bool) (rest : List Cause) → wants_port (judged ((OffRing if a) ∷ (SameNode if b) ∷ (NumberLive if l) ∷ rest)) ≡ true
-          → (judged ((OffRing if a) ∷ (SameNode if b) ∷ []) ≡ granted) × (l ≡ false)
+          → (judged ((OffRing if a) ∷ (SameNode if b) ∷ []) ≡ Ok tt) × (l ≡ false)
       past true b l rest h = absurd (false≢true h)
       past false true l rest h = absurd (false≢true h)
       past false false true rest h = absurd (false≢true h)
       past false false false rest h = (refl, refl)
 
       wants : (v : Verdict) → lacks_port (decided_by t c v).opened.answer ≡ wants_port v
-      wants granted = refl
-      wants (refused r) = refl
+      wants (Ok _) = refl
+      wants (Err r) = refl
 
       go : (o : Bool) → meets_rules t ≡ o → Lacking
       go true e =
@@ -92,10 +91,10 @@ module _ (t : RingTable) (c : Circuit) where
       go false e = absurd (false≢true (sym (ap (λ d. lacks_port d.opened.answer) (unmet e)) ∙ h))
 
   -- a request that is refused by the nodes that it names is refused by that number
-  pub named_refused : (r : Refusal) → judged (named_causes t.nodes c) ≡ refused r → ending_by t c (refused r) ≡ not_asked r
+  pub named_refused : (r : Refusal) → judged (named_causes t.nodes c) ≡ Err r → ending_by t c (Err r) ≡ not_asked r
   named_refused r h = rw (other off same h)
     where
-      other : (a b : Bool) → judged ((OffRing if a) ∷ (SameNode if b) ∷ []) ≡ refused r → (eqb (number_of r) 13 || eqb (number_of r) 14) ≡ false
+      other : (a b : Bool) → judged ((OffRing if a) ∷ (SameNode if b) ∷ []) ≡ Err r → (eqb (number_of r) 13 || eqb (number_of r) 14) ≡ false
       other true b e = sym (ap wants_port e)
       other false true e = sym (ap wants_port e)
       other false false e = sym (ap wants_port e)

@@ -16,18 +16,15 @@ use Rattle.lightpath.specs.declared.Place.{Place}
 use Rattle.channels.specs.Channels.{circuits}
 use Rattle.moves.specs.Records.{listed}
 use Rattle.ports_used.specs.PortsUsed.{free_transmitter, free_receiver}
-use Rattle.refusals.specs.Refusal.{◌if◌, judged}
+use Rattle.refusals.specs.Refusal.{◌if◌, judged, Verdict}
 use Rattle.refusals.specs.Answer.{done, some_given, verdict_answer}
 use Rattle.refusals.specs.declared.Refusal.TheVariants.{BrokenRule}
-use Rattle.refusals.specs.declared.Verdict.{Verdict}
-use Rattle.refusals.specs.declared.Verdict.TheVariants.{Granted as granted, Refused as refused}
 use Rattle.refusals.proofs.Reasons.{some_given_lem}
 use Rattle.ring.specs.Table.{meets_rules}
-use Rattle.ring.specs.Opening.{open_causes, decided_by, decide_of}
+use Rattle.ring.specs.Opening.{open_causes, decided_by, decide_of, Opening}
+use Rattle.ring.specs.declared.Taken.{Taken}
 use Rattle.ring.specs.Closing.{close_of}
 use Rattle.ring.specs.Demand3.{reasons, ServedBy}
-use Rattle.ring.specs.declared.Opening.{Opening}
-use Rattle.ring.specs.declared.Opening.TheVariants.{Taken as taken, Refused as not_opened}
 use Rattle.ring.specs.declared.RingTable.{RingTable}
 use Rattle.ring.proofs.Causes.{agree}
 use Rattle.ring.proofs.Closing.{close_takes, close_rules}
@@ -38,6 +35,7 @@ use Rattle.ending.specs.Search.{helps_by}
 use Rattle.ending.proofs.Picked.{tells}
 use Rattle.ending.proofs.Freeing.{grants, served_granted, frees_helps}
 use Rattle.ending.proofs.Verdicts.{lacking}
+use Rattle.std.specs.Prelude.{Ok, Err}
 
 -- a request that 13 or 14 would meet
 module _ (t : RingTable) (c : Circuit) (lacks : lacks_port (answer_to t c) ≡ true) where
@@ -85,8 +83,8 @@ unfolding ending_of
 asked t c n e = go (answer_to t c) (who_ends t c) e
   where
     go : (a : Opening) (w : Ending) → pick (lacks_port a) w (reply a) ≡ ends n → lacks_port a ≡ true
-    go (taken place moves looks) w k = let z : ◌≡◌ {A = ℕ} 0 1 = cc in absurd (omega arith)
-    go (not_opened r) w k = by (lacks_port (not_opened r)) k
+    go (Ok _) w k = let z : ◌≡◌ {A = ℕ} 0 1 = cc in absurd (omega arith)
+    go (Err r) w k = by (lacks_port (Err r)) k
       where
         by : (o : Bool) → pick o w (not_asked r) ≡ ends n → o ≡ true
         by true k = refl
@@ -126,10 +124,10 @@ module _ (c : Circuit) where
   abbrev plain : Circuit
   plain = requested c.number c.source c.destination
 
-  module _ {A : Type 0} (f : Opening → A) (alike : (p q : Place) (k l m n : ℕ) → f (taken p k l) ≡ f (taken q m n)) where
+  module _ {A : Type 0} (f : Opening → A) (alike : (x y : Taken) → f (Ok x) ≡ f (Ok y)) where
     by_verdict : (u : RingTable) (v : Verdict) → f (decided_by u c v).opened.answer ≡ f (decided_by u plain v).opened.answer
-    by_verdict u granted = alike _ _ _ _ _ _
-    by_verdict u (refused r) = refl
+    by_verdict u (Ok _) = alike _ _
+    by_verdict u (Err r) = refl
 
     alike_answered : (u : RingTable) → f (answer_to u c) ≡ f (answer_to u plain)
     unfolding decide_of
@@ -139,6 +137,6 @@ module _ (c : Circuit) where
   pub no_part : (t : RingTable) → ending_of t c ≡ ending_of t (requested c.number c.source c.destination)
   unfolding ending_of
   no_part t =
-      let lacks = alike_answered lacks_port (λ p q k l m n. refl) t in
-      let same = alike_answered reply (λ p q k l m n. refl) t in
-      λ i. pick (lacks i) (lowest_of (those (λ n. alike_answered is_served (λ p q k l m n. refl) (close_of t n).table i) (circuits t.channels))) (same i)
+      let lacks = alike_answered lacks_port (λ x y. refl) t in
+      let same = alike_answered reply (λ x y. refl) t in
+      λ i. pick (lacks i) (lowest_of (those (λ n. alike_answered is_served (λ x y. refl) (close_of t n).table i) (circuits t.channels))) (same i)

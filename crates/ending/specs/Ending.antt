@@ -1,15 +1,13 @@
 -- 02, E8: which circuit would have to end so that a request can be served. Assumes nothing. What `ends` and `ends_valid` promise.
-use Rattle.std.specs.Prelude.{ℕ, Bool, true, false, ◌||◌, List, [], ◌∷◌, eqb, ltb}
+use Rattle.std.specs.Prelude.{ℕ, Bool, true, false, ◌||◌, List, [], ◌∷◌, eqb, ltb, Err, Ok}
 use Rattle.basis.specs.Choice.{pick}
 use Rattle.limits.specs.Limits.{least_records}
 use Rattle.lightpath.specs.declared.Circuit.{Circuit}
 use Rattle.channels.specs.Channels.{circuits}
 use Rattle.refusals.specs.Refusal.{number_of}
-use Rattle.ring.specs.Opening.{decide_of}
+use Rattle.ring.specs.Opening.{decide_of, Opening}
 use Rattle.ring.specs.Closing.{close_of}
 use Rattle.ring.specs.declared.RingTable.{RingTable}
-use Rattle.ring.specs.declared.Opening.{Opening}
-use Rattle.ring.specs.declared.Opening.TheVariants.{Taken as taken, Refused as not_opened}
 pub use Rattle.ending.specs.declared.Ending.{Ending}
 pub use Rattle.ending.specs.declared.Ending.TheVariants.{Circuit as ends, Nobody as nobody, Served as served, Refused as not_asked}
 
@@ -23,13 +21,13 @@ answer_to t c = (decide_of t c least_records).opened.answer
 
 -- it is served
 abbrev pub is_served : Opening → Bool
-is_served (taken place moves looks) = true
-is_served (not_opened r) = false
+is_served (Ok _) = true
+is_served (Err r) = false
 
 -- it is "refused for want of a port", by 13 or 14
 abbrev pub lacks_port : Opening → Bool
-lacks_port (taken place moves looks) = false
-lacks_port (not_opened r) = eqb (number_of r) 13 || eqb (number_of r) 14
+lacks_port (Ok _) = false
+lacks_port (Err r) = eqb (number_of r) 13 || eqb (number_of r) 14
 
 -- "closing alone lets that request be served": the opening of c on the table without the circuit of number n is served
 abbrev pub frees : RingTable → Circuit → ℕ → Bool
@@ -56,8 +54,8 @@ who_ends t c = lowest_of (those (frees t c) (circuits t.channels))
 
 -- "served, or refused by another number, gets that as its reply"
 abbrev pub reply : Opening → Ending
-reply (taken place moves looks) = served
-reply (not_opened r) = not_asked r
+reply (Ok _) = served
+reply (Err r) = not_asked r
 
 -- "For a request that 13 or 14 would meet", that circuit; for any other, what its opening would answer
 unfoldable pub ending_of : RingTable → Circuit → Ending

@@ -2,12 +2,11 @@
 
 #![tactic(auto)]
 
-ghost use Rattle.std.specs.Prelude.{◌≡◌, true, ◌||◌, eqb};
+ghost use Rattle.std.specs.Prelude.{◌≡◌, true, fold, None, reverse, Ok};
 ghost use Rattle.slots.specs.Slot.{held};
 ghost use Rattle.channels.specs.Channels.{circuits};
 ghost use Rattle.refusals.specs.Refusal.{judged};
 ghost use Rattle.refusals.specs.Answer.{answer_by};
-ghost use Rattle.refusals.specs.declared.Verdict.TheVariants.{Granted as granted};
 ghost use Rattle.causes.specs.Causes.{named_causes};
 ghost use Rattle.ring.specs.Table.{meets_rules};
 ghost use Rattle.ring.specs.Opening.{used_causes};
@@ -18,7 +17,7 @@ ghost use Rattle.ending.specs.Search.{helps_by, none_found, lower_of, with_one, 
 use channels::Channel;
 use lightpath::Circuit;
 use limits::PLACE_COUNT;
-use refusals::{Refusal, Verdict};
+use refusals::Refusal;
 use ring::RingTable;
 use slots::Slot;
 
@@ -31,81 +30,60 @@ pub enum Ending {
     Refused(Refusal),
 }
 
-// Whether a port is free, or becomes so: the circuit's end is at the node that is asked for.
-fn port_freed(free: bool, node: u8, asked: u8) -> bool
-    ensures { result ≡ (free || eqb node asked) }
-{
-    if free {
-        return true;
-    }
-    node == asked
-}
-
-// Whether a circuit gives up the ports that the request lacks, by whether a transmitter and a receiver are free.
-fn helps(sender: bool, receiver: bool, request: Circuit, circuit: Circuit) -> bool
-    ensures { result ≡ helps_by sender receiver request circuit }
-{
-    if !port_freed(sender, circuit.source, request.source) {
-        return false;
-    }
-    port_freed(receiver, circuit.destination, request.destination)
-}
-
-// The lowest number of the circuits that help, once one was found.
+// A request, and whether a transmitter of its source and a receiver of its destination are free.
 #[derive(Clone, Copy)]
-struct Lowest {
-    found: bool,
-    number: u32,
+struct Wanted {
+    request: Circuit,
+    sender: bool,
+    receiver: bool,
 }
 
-impl Lowest {
-    // The same with a number more.
-    fn with_number(self, number: u32) -> Lowest
-        ensures { result ≡ lower_of number self }
+// The lower of a number and the one found, where there is one.
+fn lower(number: u32, lowest: Option<u32>) -> Option<u32>
+    ensures { result ≡ lower_of number lowest }
+{
+    match lowest {
+        None => Some(number),
+        Some(found) => Some(found.min(number)),
+    }
+}
+
+impl Wanted {
+    // Whether a circuit gives up the ports that the request lacks: a port is free, or the circuit's end is at the node that is asked for.
+    fn helped_by(self, circuit: Circuit) -> bool
+        ensures { result ≡ helps_by self.sender self.receiver self.request circuit }
     {
-        if !self.found {
-            return Lowest {
-                found: true,
-                number,
-            };
-        }
-        if self.number < number {
-            return self;
-        }
-        Lowest {
-            found: true,
-            number,
-        }
+        (self.sender || circuit.source == self.request.source)
+            && (self.receiver || circuit.destination == self.request.destination)
     }
 
-    // The same with a circuit more.
-    fn with_circuit(
-        self,
-        sender: bool,
-        receiver: bool,
-        request: Circuit,
-        circuit: Circuit,
-    ) -> Lowest
-        ensures { result ≡ with_one (helps_by sender receiver request) circuit self }
+    // The lowest number of the circuits that help, with a circuit more.
+    fn with_circuit(self, circuit: Circuit, lowest: Option<u32>) -> Option<u32>
+        ensures { result ≡ with_one (helps_by self.sender self.receiver self.request) circuit lowest }
     {
-        if helps(sender, receiver, request, circuit) {
-            return self.with_number(circuit.number);
+        if self.helped_by(circuit) {
+            lower(circuit.number, lowest)
+        } else {
+            lowest
         }
-        self
     }
 
     // The same with the circuits of a place.
-    fn with_slot(self, sender: bool, receiver: bool, request: Circuit, slot: Slot) -> Lowest
-        ensures { result ≡ with_all (helps_by sender receiver request) (held slot) self }
+    fn with_slot(self, slot: Slot, lowest: Option<u32>) -> Option<u32>
+        ensures { result ≡ with_all (helps_by self.sender self.receiver self.request) (held slot) lowest }
     {
         match slot {
-            Slot::Unlit => self,
-            Slot::Alone(a) => self.with_circuit(sender, receiver, request, a),
-            Slot::Shared(a, b) => {
-                let second = self.with_circuit(sender, receiver, request, b);
-                second.with_circuit(sender, receiver, request, a)
-            }
+            Slot::Unlit => lowest,
+            Slot::Alone(a) => self.with_circuit(a, lowest),
+            Slot::Shared(a, b) => self.with_circuit(a, self.with_circuit(b, lowest)),
         }
+    }
+
+    // The lowest number of the circuits of the places that help, from the highest place down.
+    fn lowest_of(self, channels: &[Channel]) -> Option<u32>
+        ensures { result ≡ fold (λ lowest channel. with_all (helps_by self.sender self.receiver self.request) (held channel.slot) lowest) None (reverse channels.now) }
+    {
+        channels.iter().rev().fold(None, |lowest, channel| self.with_slot(channel.slot, lowest))
     }
 }
 
@@ -118,26 +96,20 @@ fn lowest_helping(
 ) -> Ending
     ensures { result ≡ who_is (with_all (helps_by sender receiver request) (circuits channels) none_found) }
 {
-    let mut lowest = Lowest {
-        found: false,
-        number: 0,
+    let wanted = Wanted {
+        request,
+        sender,
+        receiver,
     };
-    let mut place: usize = PLACE_COUNT;
-    while 0 < place {
-        place -= 1;
-        let channel = channels[place];
-        let slot = channel.slot;
-        lowest = lowest.with_slot(sender, receiver, request, slot);
+    match wanted.lowest_of(&channels) {
+        Some(number) => Ending::Circuit(number),
+        None => Ending::Nobody,
     }
-    if lowest.found {
-        return Ending::Circuit(lowest.number);
-    }
-    Ending::Nobody
 }
 
 // The same for a request that names two nodes of the ring: by what is seen of the places.
 fn ends_named(table: RingTable, request: Circuit) -> Ending
-    requires { (meets_rules table ≡ true) × (judged (named_causes table.nodes request) ≡ granted) }
+    requires { (meets_rules table ≡ true) × (judged (named_causes table.nodes request) ≡ Ok tt) }
     ensures { result ≡ ending_by table request (judged (used_causes table request)) }
 {
     let nodes = table.nodes;
@@ -145,10 +117,9 @@ fn ends_named(table: RingTable, request: Circuit) -> Ending
     let channels = table.channels;
     let limit = ports::place_limit(ports);
     let seen = survey::survey_places(nodes, limit, channels, request);
-    let verdict = causes::used_verdict(ports, request, seen);
-    match verdict {
-        Verdict::Granted => Ending::Served,
-        Verdict::Refused(refusal) => {
+    match causes::used_verdict(ports, request, seen) {
+        Ok(()) => Ending::Served,
+        Err(refusal) => {
             if 0 < seen.numbered {
                 return Ending::Refused(refusal);
             }
@@ -172,10 +143,9 @@ pub fn ends_valid(table: RingTable, number: u32, source: u8, destination: u8) ->
         remark: 0,
         account: 0,
     };
-    let verdict = causes::nodes_verdict(table.nodes, request);
-    match verdict {
-        Verdict::Granted => ends_named(table, request),
-        Verdict::Refused(refusal) => Ending::Refused(refusal),
+    match causes::nodes_verdict(table.nodes, request) {
+        Ok(()) => ends_named(table, request),
+        Err(refusal) => Ending::Refused(refusal),
     }
 }
 

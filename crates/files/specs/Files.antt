@@ -1,14 +1,11 @@
 -- What reading and writing a file answers. No contract can say what stands in a file. Assumes nothing.
--- What `read_file` and `write_file` promise, and what is known of a file by its name.
-use Rattle.std.specs.Prelude.{ℕ, ◌-◌, ◌≤◌, List, ◌++◌, length, take, ◌≡◌, true, false}
-use Rattle.files.specs.declared.about.About.{About}
-use Rattle.files.specs.declared.FileRead.{FileRead}
-use Rattle.files.specs.declared.FileRead.TheVariants.{Bytes, Failed}
+-- What `read_file` and `write_file` promise.
+use Rattle.std.specs.Prelude.{ℕ, ◌-◌, ◌≤◌, List, ◌++◌, length, take, ◌≡◌, Option, Some, None}
 
 -- what was read stands at the start of the lent bytes l
-abbrev pub Within : FileRead → List ℕ → Type 0
-Within (Bytes n) l = n ≤ length l
-Within Failed l = Unit {0}
+abbrev pub Within : Option ℕ → List ℕ → Type 0
+Within (Some n) l = n ≤ length l
+Within None l = Unit {0}
 
 -- the system takes a name of at most 4,095 bytes
 abbrev pub longest_name : ℕ
@@ -26,11 +23,6 @@ longest_path = longest_name - ending
 pub record IsPath (path : List ℕ) : Type 0 where
   pub some : 1 ≤ length path
   pub short : length path ≤ longest_path
-
--- what is known of a file agrees: a name that no file has finds none, and a regular file is found
-pub record Agrees (a : About) : Type 0 where
-  pub free : a.free ≡ true → a.found ≡ false
-  pub regular : a.regular ≡ true → a.found ≡ true
 
 -- the most bytes that are kept of what std says of an error
 abbrev pub words_room : ℕ

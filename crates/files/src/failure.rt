@@ -29,17 +29,12 @@ fn put_shown(out: &mut [u8], at: usize, text: &[u8]) -> usize
     requires { at ≤ length out.old }
     ensures { result ≤ length out.new }
 {
-    let mut next = at;
-    let mut i = 0;
-    while i < text.len() {
-        if next >= out.len() {
-            break;
-        }
-        out[next] = shown(text[i]);
-        next += 1;
-        i += 1;
+    let room = &mut out[at..];
+    let count = room.len().min(text.len());
+    for (slot, byte) in room.iter_mut().zip(text) {
+        *slot = shown(*byte);
     }
-    next
+    at + count
 }
 
 // The line: the program, the path, and what failed.

@@ -7,14 +7,14 @@ mod about;
 mod failure;
 mod fresh;
 
-ghost use Rattle.std.specs.Prelude.{◌≡◌, true, length};
+ghost use Rattle.std.specs.Prelude.{◌≡◌, ◌≤◌, true, length, IfOk};
 ghost use Rattle.std.specs.Counts.{IsPrefixLen};
 ghost use Rattle.files.specs.Files.{Within, IsPath, longest_name};
 
 use about::{About, text_of};
 use failure::{LINE_ROOM, Words};
 use std::fs::{File, OpenOptions, Permissions};
-use std::io::{Read, Write};
+use std::io::{ErrorKind, Read, Write};
 use std::os::unix::fs::{PermissionsExt, fchown};
 use std::{fs, io};
 
@@ -30,12 +30,9 @@ const LONGEST_PATH: usize = LONGEST_NAME - ENDING;
 // Who may use a first file, before the user's own narrowing: its owner, and its group to read it.
 const FIRST: u32 = 0o640;
 
-// How many bytes were read, or that the file cannot be opened or read.
+// That something failed, which a line on standard error says.
 #[derive(Clone, Copy)]
-pub enum FileRead {
-    Bytes(usize),
-    Failed,
-}
+struct Said;
 
 // Writes to standard error. Where nobody hears it, nothing is said.
 fn put(rt: &HostRuntime, text: &[u8]) {
@@ -54,22 +51,40 @@ fn say(rt: &HostRuntime, path: &[u8], what: &[u8], why: Option<io::Error>) {
     put(rt, b"\n");
 }
 
-// Reads until the lent bytes are full or the file ends. Where a read fails, it says so.
-fn read_from(rt: &HostRuntime, path: &[u8], mut file: File, out: &mut [u8]) -> FileRead
-    ensures { Within result out.new }
+// Says on standard error what is wrong, where no call failed.
+fn refuse(rt: &HostRuntime, path: &[u8], what: &[u8]) -> Said {
+    say(rt, path, what, None);
+    Said
+}
+
+// What a call gave. Where it failed, it says so.
+fn or_say<T>(rt: &HostRuntime, path: &[u8], what: &[u8], done: io::Result<T>) -> Result<T, Said> {
+    match done {
+        Ok(value) => Ok(value),
+        Err(why) => {
+            say(rt, path, what, Some(why));
+            Err(Said)
+        }
+    }
+}
+
+// Reads until the lent bytes are full or the file ends, and gives how many were read. Where a read fails, it says so.
+fn read_from(rt: &HostRuntime, path: &[u8], mut file: File, out: &mut [u8]) -> Result<usize, Said>
+    ensures { IfOk result (λ count. count ≤ length out.new) }
 {
     let mut done: usize = 0;
+    // As far as each read brings it.
     while done < out.len() {
         match file.read(&mut out[done..]) {
-            Ok(0) => return FileRead::Bytes(done),
+            Ok(0) => break,
             Ok(count) => done += count,
             Err(why) => {
                 say(rt, path, b": not read: reading it", Some(why));
-                return FileRead::Failed;
+                return Err(Said);
             }
         }
     }
-    FileRead::Bytes(done)
+    Ok(done)
 }
 
 // Opens a file that is there to read it.
@@ -78,37 +93,28 @@ fn open_read(rt: &HostRuntime, path: &[u8]) -> io::Result<File> {
 }
 
 // Opens a regular file to read it. What is none is not opened: a pipe would be waited for.
-fn open_regular(rt: &HostRuntime, path: &[u8]) -> Option<File> {
+fn open_regular(rt: &HostRuntime, path: &[u8]) -> Result<File, Said> {
     if LONGEST_NAME < path.len() {
-        say(rt, path, b": not read: its name is too long", None);
-        return None;
+        return Err(refuse(rt, path, b": not read: its name is too long"));
     }
-    let about = about::look_up(rt, path);
-    if !about.found {
-        say(rt, path, b": not read: looking it up", about.why);
-        return None;
-    }
+    let about = or_say(
+        rt,
+        path,
+        b": not read: looking it up",
+        about::look_up(rt, path),
+    )?;
     if !about.regular {
-        say(rt, path, b": not read: it is not a regular file", None);
-        return None;
+        return Err(refuse(rt, path, b": not read: it is not a regular file"));
     }
-    match open_read(rt, path) {
-        Ok(file) => Some(file),
-        Err(why) => {
-            say(rt, path, b": not read: opening it", Some(why));
-            None
-        }
-    }
+    or_say(rt, path, b": not read: opening it", open_read(rt, path))
 }
 
-// Reads a file to its end, or as many of its bytes as were lent.
-pub fn read_file(rt: &HostRuntime, path: &[u8], out: &mut [u8]) -> FileRead
+// Reads a file to its end, or as many of its bytes as were lent, and gives how many; none where it cannot be opened or read.
+pub fn read_file(rt: &HostRuntime, path: &[u8], out: &mut [u8]) -> Option<usize>
     ensures { Within result out.new }
 {
-    match open_regular(rt, path) {
-        Some(file) => read_from(rt, path, file, out),
-        None => FileRead::Failed,
-    }
+    let file = open_regular(rt, path).ok()?;
+    read_from(rt, path, file, out).ok()
 }
 
 // Opens a file that is there to write it, and leaves it as it is.
@@ -119,64 +125,50 @@ fn open_update(rt: &HostRuntime, path: &[u8]) -> io::Result<File> {
         .open(rt, text_of(path)?)
 }
 
-// Whether a new file may take this name: no file has it, or a regular one that may be written.
-fn may_replace(rt: &HostRuntime, path: &[u8], old: About) -> bool {
-    if old.free {
-        return true;
-    }
-    if !old.found {
-        say(rt, path, b": not written: looking it up", old.why);
-        return false;
-    }
+// The old file, if there is one. A new file may take its name if it is a regular one that may be written.
+fn find_old(rt: &HostRuntime, path: &[u8]) -> Result<Option<About>, Said> {
+    let old = match about::look_up(rt, path) {
+        Err(why) if why.kind() == ErrorKind::NotFound => return Ok(None),
+        found => or_say(rt, path, b": not written: looking it up", found)?,
+    };
     if !old.regular {
-        say(rt, path, b": not written: it is not a regular file", None);
-        return false;
+        return Err(refuse(rt, path, b": not written: it is not a regular file"));
     }
-    match open_update(rt, path) {
-        Ok(_) => true,
-        Err(why) => {
-            say(rt, path, b": not written: opening it", Some(why));
-            false
-        }
-    }
+    or_say(
+        rt,
+        path,
+        b": not written: opening it",
+        open_update(rt, path),
+    )?;
+    Ok(Some(old))
 }
 
 // The bytes of a path up to its last `/`, that one included.
 fn folder_end(path: &[u8]) -> usize
     ensures { IsPrefixLen result path.now }
 {
-    let mut end = path.len();
-    while end > 0 {
-        if path[end - 1] == b'/' {
-            break;
-        }
-        end -= 1;
+    match path.iter().rposition(|byte| *byte == b'/') {
+        Some(at) => at + 1,
+        None => 0,
     }
-    end
 }
 
 // Opens the folder of a file and syncs it, so that one which cannot be synced is found while the old file still stands.
-fn open_folder(rt: &HostRuntime, path: &[u8]) -> Option<File> {
+fn open_folder(rt: &HostRuntime, path: &[u8]) -> Result<File, Said> {
     let end = folder_end(path);
     let opened = if end == 0 {
         open_read(rt, b".")
     } else {
         open_read(rt, &path[..end])
     };
-    let folder = match opened {
-        Ok(folder) => folder,
-        Err(why) => {
-            say(rt, path, b": not written: opening its folder", Some(why));
-            return None;
-        }
-    };
-    match folder.sync_all() {
-        Ok(()) => Some(folder),
-        Err(why) => {
-            say(rt, path, b": not written: syncing its folder", Some(why));
-            None
-        }
-    }
+    let folder = or_say(rt, path, b": not written: opening its folder", opened)?;
+    or_say(
+        rt,
+        path,
+        b": not written: syncing its folder",
+        folder.sync_all(),
+    )?;
+    Ok(folder)
 }
 
 // A name for a new file beside the old one: with `.ringplan-` and six bytes, which are chosen later, after the path.
@@ -208,28 +200,21 @@ fn made_empty(rt: &HostRuntime, name: &mut [u8]) -> io::Result<About> {
     drop(create(rt, name)?);
     let made = about::look_up(rt, name);
     remove(rt, name)?;
-    Ok(made)
+    made
 }
 
 // What a first file is like.
-fn first_like(rt: &HostRuntime, path: &[u8]) -> About
+fn first_like(rt: &HostRuntime, path: &[u8]) -> Result<About, Said>
     requires { IsPath path.now }
 {
     let mut name = [0u8; LONGEST_NAME];
     let end = name_beside(path, &mut name);
-    let made = match made_empty(rt, &mut name[..end]) {
-        Ok(made) => made,
-        Err(why) => about::missing(false, why),
-    };
-    if !made.found {
-        say(
-            rt,
-            path,
-            b": not written: making a file beside it",
-            made.why,
-        );
-    }
-    made
+    or_say(
+        rt,
+        path,
+        b": not written: making a file beside it",
+        made_empty(rt, &mut name[..end]),
+    )
 }
 
 // Gives a file the owner of another, where that is allowed, and the group.
@@ -253,12 +238,12 @@ fn give_rights(
     let Err(why) = narrowed.and(owned) else {
         return Ok(());
     };
-    let new = about::look_up(rt, name);
+    let new = about::look_up(rt, name)?;
     let alike = new.permissions == mode || new.permissions == like.permissions;
-    if new.found && new.group == like.group && alike {
+    if new.group == like.group && alike {
         return Ok(());
     }
-    Err(new.why.unwrap_or(why))
+    Err(why)
 }
 
 // Fills the new file and has it reach the disk, with the rights that it is to have.
@@ -270,25 +255,25 @@ fn fill(
     bytes: &[u8],
     like: About,
     mode: u32,
-) -> bool {
-    if let Err(why) = file.write_all(bytes) {
-        say(rt, path, b": not written: writing the new file", Some(why));
-        return false;
-    }
-    if let Err(why) = give_rights(rt, name, file, like, mode) {
-        say(
-            rt,
-            path,
-            b": not written: keeping its group and mode",
-            Some(why),
-        );
-        return false;
-    }
-    if let Err(why) = file.sync_all() {
-        say(rt, path, b": not written: syncing the new file", Some(why));
-        return false;
-    }
-    true
+) -> Result<(), Said> {
+    or_say(
+        rt,
+        path,
+        b": not written: writing the new file",
+        file.write_all(bytes),
+    )?;
+    or_say(
+        rt,
+        path,
+        b": not written: keeping its group and mode",
+        give_rights(rt, name, file, like, mode),
+    )?;
+    or_say(
+        rt,
+        path,
+        b": not written: syncing the new file",
+        file.sync_all(),
+    )
 }
 
 // Makes the new file whole and closes it. It has reached the disk before, and std keeps to itself what closing it answers.
@@ -300,7 +285,7 @@ fn make(
     bytes: &[u8],
     like: About,
     mode: u32,
-) -> bool {
+) -> Result<(), Said> {
     fill(rt, path, name, &mut file, bytes, like, mode)
 }
 
@@ -310,7 +295,7 @@ fn rename(rt: &HostRuntime, name: &[u8], path: &[u8]) -> io::Result<()> {
 }
 
 // Has the new file take the name, and the name reach the disk. A new file that cannot take it is removed.
-fn give_name(rt: &HostRuntime, path: &[u8], name: &[u8], folder: &File) -> bool {
+fn give_name(rt: &HostRuntime, path: &[u8], name: &[u8], folder: &File) -> Result<(), Said> {
     if let Err(why) = rename(rt, name, path) {
         say(
             rt,
@@ -319,18 +304,14 @@ fn give_name(rt: &HostRuntime, path: &[u8], name: &[u8], folder: &File) -> bool 
             Some(why),
         );
         let _ = remove(rt, name);
-        return false;
+        return Err(Said);
     }
-    if let Err(why) = folder.sync_all() {
-        say(
-            rt,
-            path,
-            b": not written: it has the new form, which a power cut may still take back: syncing its folder",
-            Some(why),
-        );
-        return false;
-    }
-    true
+    or_say(
+        rt,
+        path,
+        b": not written: it has the new form, which a power cut may still take back: syncing its folder",
+        folder.sync_all(),
+    )
 }
 
 // Replaces a file, or makes a first one, by a new file of this name, like another and with this mode. What fails before the new file has the
@@ -343,22 +324,16 @@ fn replace_by(
     like: About,
     mode: u32,
     folder: &File,
-) -> bool {
-    let file = match fresh::create(rt, name) {
-        Ok(file) => file,
-        Err(why) => {
-            say(
-                rt,
-                path,
-                b": not written: making a file beside it",
-                Some(why),
-            );
-            return false;
-        }
-    };
-    if !make(rt, path, name, file, bytes, like, mode) {
+) -> Result<(), Said> {
+    let file = or_say(
+        rt,
+        path,
+        b": not written: making a file beside it",
+        fresh::create(rt, name),
+    )?;
+    if make(rt, path, name, file, bytes, like, mode).is_err() {
         let _ = remove(rt, name);
-        return false;
+        return Err(Said);
     }
     give_name(rt, path, name, folder)
 }
@@ -371,7 +346,7 @@ fn replace(
     like: About,
     mode: u32,
     folder: &File,
-) -> bool
+) -> Result<(), Said>
     requires { IsPath path.now }
 {
     let mut name = [0u8; LONGEST_NAME];
@@ -379,15 +354,20 @@ fn replace(
     replace_by(rt, &mut name[..end], path, bytes, like, mode, folder)
 }
 
-// The same with the rights that it is to have: those of the old file, or for a first one no more than its owner's and its group's to read it.
-fn replace_like(rt: &HostRuntime, path: &[u8], bytes: &[u8], old: About, folder: &File) -> bool
+// The same where the path has a byte and is not too long, with the rights that the new file is to have: those of the old file, or for a first
+// one no more than its owner's and its group's to read it.
+fn write_named(rt: &HostRuntime, path: &[u8], bytes: &[u8]) -> Result<(), Said>
     requires { IsPath path.now }
 {
-    if old.found {
-        return replace(rt, path, bytes, old, old.permissions, folder);
+    let old = find_old(rt, path)?;
+    let folder = open_folder(rt, path)?;
+    match old {
+        Some(old) => replace(rt, path, bytes, old, old.permissions, &folder),
+        None => {
+            let like = first_like(rt, path)?;
+            replace(rt, path, bytes, like, like.permissions & FIRST, &folder)
+        }
     }
-    let like = first_like(rt, path);
-    like.found && replace(rt, path, bytes, like, like.permissions & FIRST, folder)
 }
 
 // Writes a file of some bytes: beside it a new one is made, with a name that no other run has, which takes the name when it is whole.
@@ -395,7 +375,7 @@ fn replace_like(rt: &HostRuntime, path: &[u8], bytes: &[u8], old: About, folder:
 pub fn write_file(rt: &HostRuntime, path: &[u8], bytes: &[u8]) -> bool
     ensures { result ≡ true → IsPath path.now }
 {
-    if path.len() == 0 {
+    if path.is_empty() {
         say(rt, path, b": not written: it has no name", None);
         return false;
     }
@@ -403,12 +383,5 @@ pub fn write_file(rt: &HostRuntime, path: &[u8], bytes: &[u8]) -> bool
         say(rt, path, b": not written: its name is too long", None);
         return false;
     }
-    let old = about::look_up(rt, path);
-    if !may_replace(rt, path, old) {
-        return false;
-    }
-    match open_folder(rt, path) {
-        Some(folder) => replace_like(rt, path, bytes, old, &folder),
-        None => false,
-    }
+    write_named(rt, path, bytes).is_ok()
 }

@@ -10,16 +10,16 @@ use lib.ListN.{length}
 use Rattle.limits.specs.Limits.{place_count}
 use Rattle.refusals.specs.declared.Refusal.{Refusal}
 use Rattle.refusals.specs.declared.Refusal.TheVariants.{BadField as no_31, BrokenForm as no_33}
-use Rattle.refusals.specs.declared.Verdict.{Verdict}
-use Rattle.refusals.specs.declared.Verdict.TheVariants.{Granted as granted, Refused as refused}
 use Rattle.ring.specs.Table.{fresh_table, with_channels}
 use Rattle.ring.specs.declared.RingTable.{RingTable}
 use Rattle.form.specs.Form.{map_width}
 use Rattle.form.specs.Reader.{Field, got, fault, Reader, and_then, ◌unless◌, byte, bytes, end}
 use Rattle.form.specs.Reading.{read_ports, map_bit, read_map_by, read_record_by, read_place_by, read_records_by, checked_by, Tests, read_by, answered_by}
+use Rattle.refusals.specs.Refusal.{Verdict}
+use Rattle.std.specs.Prelude.{Ok, Err}
 
 -- what was granted was not refused
-pub not_refused : (v : Verdict) (n : Refusal) → v ≡ granted → v ≢ refused n
+pub not_refused : (v : Verdict) (n : Refusal) → v ≡ Ok tt → v ≢ Err n
 not_refused v n e r = let z : ◌≡◌ {A = ℕ} 0 1 = cc in absurd (omega arith)
 
 -- a test goes as it went, or it failed and that is excepted
@@ -86,10 +86,10 @@ module _ (except : Refusal → Type 0) where
         agrees_then _ _ _ _ (agrees_test no_33 _ _ s (a.table (with_channels (fresh_table (length ks) ks) chs))) λ u s. inl refl
 
 -- Law: tests that agree but for numbers by which a form was not refused give it the answer and the table that it had
-pub agrees_answer : (old now : Tests) (s : List ℕ) → Agreeing (λ r. (answered_by (read_by old s)).verdict ≢ refused r) old now
+pub agrees_answer : (old now : Tests) (s : List ℕ) → Agreeing (λ r. (answered_by (read_by old s)).verdict ≢ Err r) old now
     → answered_by (read_by now s) ≡ answered_by (read_by old s)
 agrees_answer old now s a = go (agrees_form _ old now a s)
   where
-    go : Agrees (λ r. (answered_by (read_by old s)).verdict ≢ refused r) (read_by old s) (read_by now s) → answered_by (read_by now s) ≡ answered_by (read_by old s)
+    go : Agrees (λ r. (answered_by (read_by old s)).verdict ≢ Err r) (read_by old s) (read_by now s) → answered_by (read_by now s) ≡ answered_by (read_by old s)
     go (inl e) = ap answered_by e
     go (inr e) = absurd (e.1.1 (ap (λ f. (answered_by f).verdict) e.1.0))

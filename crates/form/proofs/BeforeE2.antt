@@ -22,7 +22,6 @@ use Rattle.lit_words.specs.Lit.{bit_of, word}
 use Rattle.lit_words.proofs.Bits.{bit_above}
 use Rattle.channels.specs.Channels.{Channels, circuits}
 use Rattle.refusals.specs.declared.Refusal.TheVariants.{BadField as no_31, BrokenForm as no_33}
-use Rattle.refusals.specs.declared.Verdict.TheVariants.{Granted as granted, Refused as refused}
 use Rattle.ring.specs.Table.{meets_rules, fresh_table, with_channels}
 use Rattle.ring.specs.declared.RingTable.{RingTable}
 use Rattle.form.specs.Form.{present, field_bits, field_map, form_of, number_width, remark_width}
@@ -34,6 +33,7 @@ use Rattle.form.proofs.Fields.{Holds, then_holds, then_any, unless_holds, AreByt
 use Rattle.form.proofs.Tables.{unlit_written, table_back_by}
 use Rattle.form.proofs.Laws.{granted_holds, write_back}
 use Rattle.form.proofs.Agreeing.{not_refused, implied, agrees_answer}
+use Rattle.std.specs.Prelude.{Ok, Err}
 
 -- 02, E2: the lowest field maps that have an account and hold did not hold before E2
 pub no_bits : (map_held_before_e2 8 ≡ false) × (map_held_before_e2 18 ≡ false)
@@ -86,7 +86,7 @@ module _ (m : ℕ) (h : map_held_before_e2 m ≡ true) where
       go false false k = refl
 
 -- 02, E2: a form that before E2 was not refused by 31 has the answer and the table that it had
-pub answer_before : (s : List ℕ) → (read_before_e2 s).verdict ≢ refused no_31 → read_of s ≡ read_before_e2 s
+pub answer_before : (s : List ℕ) → (read_before_e2 s).verdict ≢ Err no_31 → read_of s ≡ read_before_e2 s
 unfolding read_of read_table
 answer_before s other =
     agrees_answer tests_before_e2 tests_now s
@@ -140,17 +140,17 @@ table_none s =
     q
 
 -- 02, E2: a form that was read before E2 gave a table without accounts
-pub no_accounts : (s : List ℕ) → (read_before_e2 s).verdict ≡ granted → NoAccounts (read_before_e2 s).table.channels
+pub no_accounts : (s : List ℕ) → (read_before_e2 s).verdict ≡ Ok tt → NoAccounts (read_before_e2 s).table.channels
 no_accounts s e = (granted_holds _ (read_by tests_before_e2 s) (table_none s) e).1
 
 -- 02, E2: "Forms without the bits read as account 0.": every form that was read before E2 is read, to the same circuits with account 0, and
 -- writes back to the very same bytes
-pub read_before : (s : List ℕ) → AreBytes s → (read_before_e2 s).verdict ≡ granted → RemainsGood s
+pub read_before : (s : List ℕ) → AreBytes s → (read_before_e2 s).verdict ≡ Ok tt → RemainsGood s
 read_before s h e = record { same = same; none = rw same (no_accounts s e); back = write_back s h (rw same e) }
   where
     same : read_of s ≡ read_before_e2 s
     same = answer_before s (not_refused _ no_31 e)
 
 -- 02, E2: the form of every table without accounts was read before E2
-pub back_before : (t : RingTable) → meets_rules t ≡ true → NoAccounts t.channels → read_before_e2 (form_of t) ≡ record { table = t; verdict = granted }
+pub back_before : (t : RingTable) → meets_rules t ≡ true → NoAccounts t.channels → read_before_e2 (form_of t) ≡ record { table = t; verdict = Ok tt }
 back_before t m h = rw (table_back_by tests_before_e2 t m (unlit_written t m) (all_held_lem t.channels h) m)

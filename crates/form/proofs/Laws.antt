@@ -5,7 +5,6 @@ use mathlib.Core.Bool.{true}
 use mathlib.Core.List.{List}
 use native.Mathlib.Omega.{arith}
 use Rattle.refusals.specs.Answer.{verdict_answer}
-use Rattle.refusals.specs.declared.Verdict.TheVariants.{Granted as granted}
 use Rattle.ring.specs.Table.{meets_rules}
 use Rattle.ring.specs.declared.RingTable.{RingTable}
 use Rattle.ring.specs.declared.Answered.{Answered}
@@ -14,9 +13,10 @@ use Rattle.form.specs.Reader.{Field, got, fault}
 use Rattle.form.specs.Reading.{answered_by, read_table, read_of, answer_in, read_answer, NamesAreNumbers}
 use Rattle.form.proofs.Fields.{Holds, AreBytes}
 use Rattle.form.proofs.Tables.{table_back, table_meets, table_wrote}
+use Rattle.std.specs.Prelude.{Ok}
 
 -- Demand 2: "A saved form read back gives the table written": so it is of every table that meets the ring rules
-pub read_back : (t : RingTable) → meets_rules t ≡ true → read_of (form_of t) ≡ record { table = t; verdict = granted }
+pub read_back : (t : RingTable) → meets_rules t ≡ true → read_of (form_of t) ≡ record { table = t; verdict = Ok tt }
 unfolding read_of
 read_back t m = rw (table_back t m)
 
@@ -33,21 +33,21 @@ read_number s = go (read_table s)
     go (got t r) = refl
     go (fault n) = refl
 
-pub granted_holds : (P : RingTable → List ℕ → Type 0) (f : Field RingTable) → Holds P f → (answered_by f).verdict ≡ granted → (r : List ℕ) × P (answered_by f).table r
+pub granted_holds : (P : RingTable → List ℕ → Type 0) (f : Field RingTable) → Holds P f → (answered_by f).verdict ≡ Ok tt → (r : List ℕ) × P (answered_by f).table r
 granted_holds P (got t r) h e = (r, h)
 granted_holds P (fault n) h e = let z : ◌≡◌ {A = ℕ} 0 1 = cc in absurd (omega arith)
 
 -- Law: whatever is read without a refusal meets the ring rules
-pub read_meets : (s : List ℕ) → (read_of s).verdict ≡ granted → meets_rules (read_of s).table ≡ true
+pub read_meets : (s : List ℕ) → (read_of s).verdict ≡ Ok tt → meets_rules (read_of s).table ≡ true
 unfolding read_of
 read_meets s e = (granted_holds _ (read_table s) (table_meets s) e).1
 
 -- and so does the table of an answer that is what reading gives
-pub accepted_meets : (s : List ℕ) (a : Answered) → a ≡ read_of s → a.verdict ≡ granted → meets_rules a.table ≡ true
+pub accepted_meets : (s : List ℕ) (a : Answered) → a ≡ read_of s → a.verdict ≡ Ok tt → meets_rules a.table ≡ true
 accepted_meets s a e g = rw e (read_meets s (rw e at g))
 
 -- Demand 2: "each table has one form": what is read without a refusal writes back to the very bytes read
-pub write_back : (s : List ℕ) → AreBytes s → (read_of s).verdict ≡ granted → form_of (read_of s).table ≡ s
+pub write_back : (s : List ℕ) → AreBytes s → (read_of s).verdict ≡ Ok tt → form_of (read_of s).table ≡ s
 unfolding read_of
 write_back s h e = (granted_holds _ (read_table s) (table_wrote s h) e).1
 

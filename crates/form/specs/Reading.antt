@@ -1,6 +1,6 @@
 -- 01, "Saved form" and "Order": a form is checked left to right: N; the ports present; 2; 3; the map; each record in turn; 32; 33.
 -- Each refusal is named by its number (`number_of`). Assumes nothing. What `read` promises.
-use Rattle.std.specs.Prelude.{ℕ, zero, suc, ◌/◌, ◌%◌, ◌≡◌, Bool, true, false, ◌&&◌, ◌||◌, not, List, [], ◌∷◌, leb, ltb, length, get_or}
+use Rattle.std.specs.Prelude.{ℕ, zero, suc, ◌/◌, ◌%◌, ◌≡◌, Bool, true, false, ◌&&◌, ◌||◌, not, List, [], ◌∷◌, leb, ltb, length, get_or, Ok, Err}
 use Rattle.basis.specs.Count.{total}
 use Rattle.limits.specs.Limits.{least_nodes, most_nodes, most_ports, most_total, place_count}
 use Rattle.lightpath.specs.declared.Circuit.{Circuit}
@@ -12,7 +12,6 @@ use Rattle.ports.specs.Ports.{limit_of, each_at_most}
 use Rattle.refusals.specs.Refusal.{number_of}
 use Rattle.refusals.specs.Answer.{Answer, refusal, done}
 use Rattle.refusals.specs.declared.Refusal.TheVariants.{NodeCount as no_1, PortCount as no_2, PortSum as no_3, CutShort as no_30, BadField as no_31, TrailingBytes as no_32, BrokenForm as no_33}
-use Rattle.refusals.specs.declared.Verdict.TheVariants.{Granted as granted, Refused as refused}
 use Rattle.ring.specs.Table.{meets_rules, blank_table, fresh_table, with_channels}
 use Rattle.ring.specs.declared.RingTable.{RingTable}
 use Rattle.ring.specs.declared.Answered.{Answered}
@@ -136,8 +135,8 @@ read_table = read_by tests_now
 
 -- a refused reading hands back the blank table
 abbrev pub answered_by : Field RingTable → Answered
-answered_by (got t s) = record { table = t; verdict = granted }
-answered_by (fault r) = record { table = blank_table; verdict = refused r }
+answered_by (got t s) = record { table = t; verdict = Ok tt }
+answered_by (fault r) = record { table = blank_table; verdict = Err r }
 
 unfoldable pub read_of : List ℕ → Answered
 read_of s = answered_by (read_table s)

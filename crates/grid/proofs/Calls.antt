@@ -11,38 +11,37 @@ use mir.Syntax.{w32}
 use mir.Val.{SFits, to_z, of_z}
 use mir.Facts.{to_z_pos, to_z-of_z}
 use borrow.Author.Tests.{lt-ltb}
-use Rattle.refusals.specs.Refusal.{◌if◌, judged}
+use Rattle.refusals.specs.Refusal.{◌if◌, judged, Verdict}
 use Rattle.refusals.specs.Answer.{answer_by}
 use Rattle.refusals.specs.declared.Refusal.{Refusal}
 use Rattle.refusals.specs.declared.Refusal.TheVariants.{NoWavelength, NoSpacing, NoStart, OffPlan}
-use Rattle.refusals.specs.declared.Verdict.{Verdict}
-use Rattle.refusals.specs.declared.Verdict.TheVariants.{Granted as granted, Refused as refused}
 use Rattle.refusals.proofs.Judged.{none_holds, judged_stop}
 use Rattle.grid.specs.Grid.{GridPlan, is_spacing, is_start, is_plan, grid_point, highest_wavelength, wavelength_at}
-use Rattle.grid.specs.Tuning.{Tuned, Carried, To, not_tuned, not_carried, plan_causes, tuned_of, tuned_by, tuned_answer, tuned_reasons, tuned_values, carried_of, carried_by, carried_answer, carried_reasons, carried_values}
+use Rattle.grid.specs.Tuning.{Tuned, Carried, plan_causes, tuned_of, tuned_by, tuned_answer, tuned_reasons, tuned_values, carried_of, carried_by, carried_answer, carried_reasons, carried_values}
 use Rattle.grid.specs.Number.{OnGrid}
 use Rattle.basis.proofs.Integers.{sfits_most}
 use Rattle.grid.proofs.Plans.{held, above_zero}
 use Rattle.grid.proofs.Laws.{plan_of_lem, last_stops, tuned_is}
 use Rattle.grid.proofs.Numbers.{tuned_numbers, carried_numbers}
 use Rattle.grid.proofs.Machine.{number_size}
+use Rattle.std.specs.Prelude.{Ok, Err}
 
 -- a plan judged
 module _ (p : GridPlan) where
-  pub no_spacing : (r : Bool) → r ≡ is_spacing p.spacing → not r ≡ true → refused NoSpacing ≡ judged (plan_causes p)
+  pub no_spacing : (r : Bool) → r ≡ is_spacing p.spacing → not r ≡ true → Err NoSpacing ≡ judged (plan_causes p)
   no_spacing r e h = rw (← e, h)
 
   module _ (fits : mag p.start < 2 ^ 31) (r t : Bool) (e : r ≡ is_spacing p.spacing) (h : not r ≡ false) (q : t ≡ is_start (to_z w32 (of_z w32 p.start))) where
     start : t ≡ is_start p.start
     start = q ∙ ap is_start (to_z-of_z {w = w32} {z = p.start} (record { sfits = fits }))
 
-    pub no_start : not t ≡ true → refused NoStart ≡ judged (plan_causes p)
+    pub no_start : not t ≡ true → Err NoStart ≡ judged (plan_causes p)
     no_start k = rw (← e, h, ← start, k)
 
-    pub a_plan : not t ≡ false → granted ≡ judged (plan_causes p)
+    pub a_plan : not t ≡ false → (Ok tt) ≡ judged (plan_causes p)
     a_plan k = rw (← e, h, ← start, k)
 
-  pub granted_plan : (v : Verdict) → v ≡ judged (plan_causes p) → v ≡ granted → is_plan p ≡ true
+  pub granted_plan : (v : Verdict) → v ≡ judged (plan_causes p) → v ≡ Ok tt → is_plan p ≡ true
   granted_plan v e g = let n = none_holds (plan_causes p) (sym e ∙ g) in plan_of_lem p n.0 n.1.0
 
   -- the answer, and in numbers
@@ -53,24 +52,24 @@ module _ (p : GridPlan) where
   carried_said f r e = (e, ap (λ x. carried_answer x) e ∙ carried_numbers p f)
 
   -- a plan that is refused answers so
-  tuned_stop : (w : ℕ) (r : Refusal) → judged (plan_causes p) ≡ refused r → tuned_of p w ≡ not_tuned r
+  tuned_stop : (w : ℕ) (r : Refusal) → judged (plan_causes p) ≡ Err r → tuned_of p w ≡ Err r
   unfolding tuned_of
   tuned_stop w r e = ap (tuned_by p w) (judged_stop (plan_causes p) ((NoWavelength if ltb highest_wavelength w) ∷ []) r e)
 
-  carried_stop : (f : ℕ) (r : Refusal) → judged (plan_causes p) ≡ refused r → carried_of p f ≡ not_carried r
+  carried_stop : (f : ℕ) (r : Refusal) → judged (plan_causes p) ≡ Err r → carried_of p f ≡ Err r
   unfolding carried_of
   carried_stop f r e = ap (carried_by p f) (judged_stop (plan_causes p) ((OffPlan if ltb highest_wavelength (wavelength_at p f)) ∷ []) r e)
 
-  pub tuned_refused : (w : ℕ) (v : Verdict) (r : Refusal) → v ≡ judged (plan_causes p) → v ≡ refused r
-      → (not_tuned r ≡ tuned_of p w) × (tuned_answer (not_tuned r) ≡ answer_by (tuned_reasons p w) (tuned_values p w))
-  tuned_refused w v r e h = tuned_said w (not_tuned r) (sym (tuned_stop w r (sym e ∙ h)))
+  pub tuned_refused : (w : ℕ) (v : Verdict) (r : Refusal) → v ≡ judged (plan_causes p) → v ≡ Err r
+      → (Err r ≡ tuned_of p w) × (tuned_answer (Err r) ≡ answer_by (tuned_reasons p w) (tuned_values p w))
+  tuned_refused w v r e h = tuned_said w (Err r) (sym (tuned_stop w r (sym e ∙ h)))
 
-  pub carried_refused : (f : ℕ) (v : Verdict) (r : Refusal) → v ≡ judged (plan_causes p) → v ≡ refused r
-      → (not_carried r ≡ carried_of p f) × (carried_answer (not_carried r) ≡ answer_by (carried_reasons p f) (carried_values p f))
-  carried_refused f v r e h = carried_said f (not_carried r) (sym (carried_stop f r (sym e ∙ h)))
+  pub carried_refused : (f : ℕ) (v : Verdict) (r : Refusal) → v ≡ judged (plan_causes p) → v ≡ Err r
+      → (Err r ≡ carried_of p f) × (carried_answer (Err r) ≡ answer_by (carried_reasons p f) (carried_values p f))
+  carried_refused f v r e h = carried_said f (Err r) (sym (carried_stop f r (sym e ∙ h)))
 
 -- a wavelength above 63
-pub too_high : (p : GridPlan) (w : ℕ) → is_plan p ≡ true → highest_wavelength < w → not_tuned NoWavelength ≡ tuned_of p w
+pub too_high : (p : GridPlan) (w : ℕ) → is_plan p ≡ true → highest_wavelength < w → Err NoWavelength ≡ tuned_of p w
 unfolding tuned_of
 too_high p w e h = sym (ap (tuned_by p w) (last_stops p e NoWavelength (ltb highest_wavelength w) (lt-ltb highest_wavelength w h)))
 
@@ -110,5 +109,5 @@ module _ (p : GridPlan) (w : ℕ) (e : is_plan p ≡ true) (l : w ≤ 63) where
   number_on = subst (λ x. OnGrid p.spacing x) (sym number_is) (record { narrow = (held p e).narrow; low = on.0; high = on.1 })
 
   pub tuned_point : (f : ℕ) → pos f ≡ grid_point p.spacing (to_z w32 (of_z w32 (to_z w32 (of_z w32 p.start) +ℤ to_z w32 w)))
-      → To (record { 0 = f }) ≡ tuned_of p w
-  tuned_point f q = ap (λ x. To (record { 0 = x })) (ap nat_abs (q ∙ ap (grid_point p.spacing) number_is ∙ sym (above_zero p e w))) ∙ sym (tuned_is p e w l)
+      → Ok (record { 0 = f }) ≡ tuned_of p w
+  tuned_point f q = ap (λ x. Ok (record { 0 = x })) (ap nat_abs (q ∙ ap (grid_point p.spacing) number_is ∙ sym (above_zero p e w))) ∙ sym (tuned_is p e w l)

@@ -13,12 +13,13 @@ use mir.Facts.{to_z_pos, to_z-of_z}
 use borrow.Author.Tests.{ltb-false, le-ltb, eqb-true, eq-eqb, ne_eqb, not-false}
 use Rattle.refusals.specs.declared.Refusal.TheVariants.{OffPlan}
 use Rattle.grid.specs.Grid.{GridPlan, anchor, is_plan, highest_wavelength, frequency_at}
-use Rattle.grid.specs.Tuning.{carried_of, By, not_carried}
+use Rattle.grid.specs.Tuning.{carried_of}
 use Rattle.grid.specs.Number.{is_whole}
 use Rattle.basis.proofs.Integers.{mag_neg, mag_sum, mag_quot, sfits_most, abs_zero}
 use Rattle.grid.proofs.Plans.{held, divides, divided}
 use Rattle.grid.proofs.Laws.{carried_is, carried_none}
 use Rattle.grid.proofs.Machine.{from_anchor_size, number_size}
+use Rattle.std.specs.Prelude.{Ok, Err}
 
 -- a distance and a spacing as the machine has them
 module _ (d : ℤ) (s : ℕ) (fits : SFits w64 d) (bits : s < 2 ^ 32) (some : 0 < s) where
@@ -78,7 +79,7 @@ module _ (p : GridPlan) (f : ℕ) (d : ℤ) (plan : is_plan p ≡ true) (fits : 
   read = to_z-of_z {w = w64} {z = d} (record { sfits = fits }) ∙ is
 
   -- where something is left over, no wavelength stands there
-  pub left_over : (r : Bool) → r ≡ is_whole (to_z w64 (of_z w64 d)) s → not r ≡ true → not_carried OffPlan ≡ carried_of p f
+  pub left_over : (r : Bool) → r ≡ is_whole (to_z w64 (of_z w64 d)) s → not r ≡ true → Err OffPlan ≡ carried_of p f
   left_over r e h = sym (carried_none p plan f (λ w l k. true≢false (sym h ∙ ap not (e ∙ whole w k))))
     where
       whole : (w : ℕ) → frequency_at p w ≡ f → is_whole (to_z w64 (of_z w64 d)) s ≡ true
@@ -111,14 +112,14 @@ module _ (p : GridPlan) (f : ℕ) (d : ℤ) (plan : is_plan p ≡ true) (fits : 
     steps_are : to_z w64 (of_z w64 steps) ≡ quot_z (pos f -ℤ pos anchor) (pos s) -ℤ n
     steps_are = to_z-of_z steps_need ∙ steps_from ∙ ap (λ x. x -ℤ n) exact
 
-    off : ((w : ℕ) → w ≤ highest_wavelength → to_z w64 (of_z w64 steps) ≡ pos w → ⊥) → not_carried OffPlan ≡ carried_of p f
+    off : ((w : ℕ) → w ≤ highest_wavelength → to_z w64 (of_z w64 steps) ≡ pos w → ⊥) → Err OffPlan ≡ carried_of p f
     off h = sym (carried_none p plan f (λ w l k. h w l (steps_are ∙ (divides p plan w f k).1)))
 
     -- below zero or above 63 they lead to none
-    pub below_plan : lt_z (to_z w64 (of_z w64 steps)) (pos 0) ≡ true → not_carried OffPlan ≡ carried_of p f
+    pub below_plan : lt_z (to_z w64 (of_z w64 steps)) (pos 0) ≡ true → Err OffPlan ≡ carried_of p f
     below_plan h = off (λ w l k. true≢false (sym h ∙ ap (λ x. lt_z x (pos 0)) k ∙ le-ltb w 0 (omega arith)))
 
-    pub above_plan : lt_z (pos 63) (to_z w64 (of_z w64 steps)) ≡ true → not_carried OffPlan ≡ carried_of p f
+    pub above_plan : lt_z (pos 63) (to_z w64 (of_z w64 steps)) ≡ true → Err OffPlan ≡ carried_of p f
     above_plan h = off (λ w l k. true≢false (sym h ∙ ap (λ x. lt_z (pos 63) x) k ∙ le-ltb 63 w l))
 
     -- else to the wavelength
@@ -129,7 +130,7 @@ module _ (p : GridPlan) (f : ℕ) (d : ℤ) (plan : is_plan p ≡ true) (fits : 
         (subst (λ x. T (non_neg x)) (sym b.0) tt, record { fits = lt_of_le_of_lt b.1 (lit< tt) })
 
     pub in_plan : (r : Bool) → r ≡ is_whole (to_z w64 (of_z w64 d)) s → not r ≡ false → lt_z (to_z w64 (of_z w64 steps)) (pos 0) ≡ false → lt_z (pos 63) (to_z w64 (of_z w64 steps)) ≡ false
-        → By (record { 0 = nat_abs (to_z w64 (of_z w64 steps)) }) ≡ carried_of p f
+        → Ok (record { 0 = nat_abs (to_z w64 (of_z w64 steps)) }) ≡ carried_of p f
     in_plan r e h low high =
         let b = within (to_z w64 (of_z w64 steps)) low high in
         sym (carried_is p plan _ f b.1 (divided p plan _ f (none_left r e h) (sym steps_are ∙ b.0)))

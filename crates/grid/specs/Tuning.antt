@@ -1,18 +1,15 @@
 -- 02, E3: what is answered there and back, and the refusals in their order. Assumes nothing.
 -- What `GridPlan::frequency` and `wavelength` promise.
-use Rattle.std.specs.Prelude.{ℕ, not, ◌||◌, List, [], ◌∷◌, ◌++◌, eqb, ltb, pos, neg_ℤ}
+use Rattle.std.specs.Prelude.{ℕ, not, ◌||◌, List, [], ◌∷◌, ◌++◌, eqb, ltb, pos, neg_ℤ, Result, Ok, Err}
 use Rattle.std.specs.Int.Signed.{lt_z}
 use Rattle.basis.specs.Search.{every_below}
-use Rattle.refusals.specs.Refusal.{number_of, Cause, ◌if◌, judged}
+use Rattle.refusals.specs.Refusal.{number_of, Cause, ◌if◌, judged, Verdict}
 use Rattle.refusals.specs.Answer.{Answer, refusal, done, Reason, ◌when◌}
+use Rattle.lightpath.specs.declared.Wavelength.{Wavelength}
+use Rattle.refusals.specs.declared.Refusal.{Refusal}
 use Rattle.refusals.specs.declared.Refusal.TheVariants.{NoWavelength, NoSpacing, NoStart, OffPlan}
-use Rattle.refusals.specs.declared.Verdict.{Verdict}
-use Rattle.refusals.specs.declared.Verdict.TheVariants.{Granted as granted, Refused as refused}
 use Rattle.grid.specs.Grid.{GridPlan, is_spacing, is_start, highest_wavelength, frequency_at, wavelength_at}
-pub use Rattle.grid.specs.declared.Tuned.{Tuned}
-pub use Rattle.grid.specs.declared.Tuned.TheVariants.{To, Refused as not_tuned}
-pub use Rattle.grid.specs.declared.Carried.{Carried}
-pub use Rattle.grid.specs.declared.Carried.TheVariants.{By, Refused as not_carried}
+use Rattle.grid.specs.declared.Frequency.{Frequency}
 
 -- "41 (spacing), 42 (starting n)"
 abbrev pub plan_causes : GridPlan → List Cause
@@ -22,9 +19,13 @@ plan_causes p = (NoSpacing if not (is_spacing p.spacing)) ∷ (NoStart if not (i
 abbrev pub tuned_causes : GridPlan → ℕ → List Cause
 tuned_causes p w = plan_causes p ++ ((NoWavelength if ltb highest_wavelength w) ∷ [])
 
+-- the frequency at which a wavelength stands, or a refusal
+abbrev pub Tuned : Type 0
+Tuned = Result Frequency Refusal
+
 abbrev pub tuned_by : GridPlan → ℕ → Verdict → Tuned
-tuned_by p w granted = To (record { 0 = frequency_at p w })
-tuned_by p w (refused r) = not_tuned r
+tuned_by p w (Ok _) = Ok (record { 0 = frequency_at p w })
+tuned_by p w (Err r) = Err r
 
 unfoldable pub tuned_of : GridPlan → ℕ → Tuned
 tuned_of p w = tuned_by p w (judged (tuned_causes p w))
@@ -33,21 +34,25 @@ tuned_of p w = tuned_by p w (judged (tuned_causes p w))
 abbrev pub carried_causes : GridPlan → ℕ → List Cause
 carried_causes p f = plan_causes p ++ ((OffPlan if ltb highest_wavelength (wavelength_at p f)) ∷ [])
 
+-- the wavelength that stands at a frequency, or a refusal
+abbrev pub Carried : Type 0
+Carried = Result Wavelength Refusal
+
 abbrev pub carried_by : GridPlan → ℕ → Verdict → Carried
-carried_by p f granted = By (record { 0 = wavelength_at p f })
-carried_by p f (refused r) = not_carried r
+carried_by p f (Ok _) = Ok (record { 0 = wavelength_at p f })
+carried_by p f (Err r) = Err r
 
 unfoldable pub carried_of : GridPlan → ℕ → Carried
 carried_of p f = carried_by p f (judged (carried_causes p f))
 
 -- the numbers and values of the answers
 abbrev pub tuned_answer : Tuned → Answer
-tuned_answer (To f) = done (f.0 ∷ [])
-tuned_answer (not_tuned r) = refusal (number_of r)
+tuned_answer (Ok f) = done (f.0 ∷ [])
+tuned_answer (Err r) = refusal (number_of r)
 
 abbrev pub carried_answer : Carried → Answer
-carried_answer (By w) = done (w.0 ∷ [])
-carried_answer (not_carried r) = refusal (number_of r)
+carried_answer (Ok w) = done (w.0 ∷ [])
+carried_answer (Err r) = refusal (number_of r)
 
 -- the refusals as numbers
 abbrev pub plan_reasons : GridPlan → List Reason

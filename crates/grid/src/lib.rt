@@ -15,29 +15,21 @@ use lightpath::Wavelength;
 use refusals::{Refusal, Verdict};
 
 // A frequency in counts of 100 MHz.
-#[derive(Clone, Copy)]
+#[derive(Clone, Copy, Debug, PartialEq, Eq)]
 pub struct Frequency(pub u32);
 
 // A plan of the grid: its spacing in counts of 100 MHz, and the grid number of wavelength 0.
-#[derive(Clone, Copy)]
+#[derive(Clone, Copy, Debug, PartialEq, Eq)]
 pub struct GridPlan {
     pub spacing: u32,
     pub start: i32,
 }
 
 // At which frequency a wavelength stands.
-#[derive(Clone, Copy)]
-pub enum Tuned {
-    To(Frequency),
-    Refused(Refusal),
-}
+pub type Tuned = Result<Frequency, Refusal>;
 
 // Which wavelength stands at a frequency.
-#[derive(Clone, Copy)]
-pub enum Carried {
-    By(Wavelength),
-    Refused(Refusal),
-}
+pub type Carried = Result<Wavelength, Refusal>;
 
 // The frequency at grid number 0, 193.1 THz.
 const ANCHOR: i32 = 1931000;
@@ -54,10 +46,7 @@ const HIGHEST_WAVELENGTH: u32 = 63;
 fn is_spacing(spacing: u32) -> bool
     ensures { result ≡ is_spacing spacing }
 {
-    match spacing {
-        125 | 250 | 500 | 1000 => true,
-        _ => false,
-    }
+    matches!(spacing, 125 | 250 | 500 | 1000)
 }
 
 // Whether a plan may start at the grid number.
@@ -104,12 +93,12 @@ impl GridPlan {
         ensures { result ≡ judged (plan_causes self) }
     {
         if !is_spacing(self.spacing) {
-            return Verdict::Refused(Refusal::NoSpacing);
+            return Err(Refusal::NoSpacing);
         }
         if !is_start(self.start) {
-            return Verdict::Refused(Refusal::NoStart);
+            return Err(Refusal::NoStart);
         }
-        Verdict::Granted
+        Ok(())
     }
 
     // The frequency of a wavelength, of a plan of the grid.
@@ -118,10 +107,10 @@ impl GridPlan {
         ensures { result ≡ tuned_of self number }
     {
         if HIGHEST_WAVELENGTH < number {
-            return Tuned::Refused(Refusal::NoWavelength);
+            return Err(Refusal::NoWavelength);
         }
         let grid_number = self.start + number as i32;
-        Tuned::To(Frequency(grid_point(self.spacing, grid_number)))
+        Ok(Frequency(grid_point(self.spacing, grid_number)))
     }
 
     // The frequency at which a wavelength of the plan stands, by a number as somebody wrote it, judged with all its bits.
@@ -129,11 +118,8 @@ impl GridPlan {
         ensures answer { result ≡ tuned_of self number }
         ensures numbers { tuned_answer result ≡ answer_by (tuned_reasons self number) (tuned_values self number) }
     {
-        let verdict = self.judge();
-        match verdict {
-            Verdict::Granted => self.tuned(number),
-            Verdict::Refused(refusal) => Tuned::Refused(refusal),
-        }
+        self.judge()?;
+        self.tuned(number)
     }
 
     // The frequency at which a wavelength of the plan stands.
@@ -152,16 +138,16 @@ impl GridPlan {
         let difference = from_anchor(frequency);
         // Asked first, since a division rounds towards zero: a frequency just below a start of −3 would be wavelength 0.
         if !is_whole(difference, self.spacing) {
-            return Carried::Refused(Refusal::OffPlan);
+            return Err(Refusal::OffPlan);
         }
         let wavelength = spacings(difference, self.spacing) - self.start as i64;
         if wavelength < 0 {
-            return Carried::Refused(Refusal::OffPlan);
+            return Err(Refusal::OffPlan);
         }
         if (HIGHEST_WAVELENGTH as i64) < wavelength {
-            return Carried::Refused(Refusal::OffPlan);
+            return Err(Refusal::OffPlan);
         }
-        Carried::By(Wavelength(wavelength as u8))
+        Ok(Wavelength(wavelength as u8))
     }
 
     // The wavelength of the plan that stands at a frequency.
@@ -169,10 +155,7 @@ impl GridPlan {
         ensures answer { result ≡ carried_of self frequency.0 }
         ensures numbers { carried_answer result ≡ answer_by (carried_reasons self frequency.0) (carried_values self frequency.0) }
     {
-        let verdict = self.judge();
-        match verdict {
-            Verdict::Granted => self.carried(frequency.0),
-            Verdict::Refused(refusal) => Carried::Refused(refusal),
-        }
+        self.judge()?;
+        self.carried(frequency.0)
     }
 }

@@ -13,36 +13,34 @@ module _ (v : ℕ) where
   digit_high h = rw (le-ltb v 10 h) (omega arith)
 
 -- a value found by a difference that wraps
-module _ (x r : ℕ) (small : r < 2 ^ 8) where
-  module _ (e : (r + 97) % 2 ^ 8 ≡ x) where
-    pub letter_found : r < 6 → r + 10 ≡ letter_value x
-    letter_found h =
-        let l : 97 ≤ x = omega arith in
-        let m : x ≤ 102 = omega arith in
-        rw (le-leb 97 x l, le-leb x 102 m) (omega arith)
+module _ (x : ℕ) (small : x < 2 ^ 8) where
+  pub letter_found : (x + 159) % 256 < 6 → (x + 159) % 256 + 10 ≡ letter_value x
+  letter_found h =
+      let l : 97 ≤ x = omega arith in
+      let m : x ≤ 102 = omega arith in
+      rw (le-leb 97 x l, le-leb x 102 m) (omega arith)
 
-    pub letter_none : 6 ≤ r → no_digit ≡ letter_value x
-    letter_none h = go (dec_lt x 97)
-      where
-        go : Dec (x < 97) → no_digit ≡ letter_value x
-        go (yes l) = rw (lt-leb 97 x l)
-        go (no l) = let m : 102 < x = omega arith in rw (lt-leb x 102 m, and-false)
+  pub letter_none : 6 ≤ (x + 159) % 256 → no_digit ≡ letter_value x
+  letter_none h = go (dec_lt x 97)
+    where
+      go : Dec (x < 97) → no_digit ≡ letter_value x
+      go (yes l) = rw (lt-leb 97 x l)
+      go (no l) = let m : 102 < x = omega arith in rw (lt-leb x 102 m, and-false)
 
-  module _ (e : (r + 48) % 2 ^ 8 ≡ x) where
-    pub numeral_found : r < 10 → r ≡ value_of x
-    unfolding value_of
-    numeral_found h =
-        let l : 48 ≤ x = omega arith in
-        let m : x ≤ 57 = omega arith in
-        rw (le-leb 48 x l, le-leb x 57 m) (omega arith)
+  pub numeral_found : (x + 208) % 256 < 10 → (x + 208) % 256 ≡ value_of x
+  unfolding value_of
+  numeral_found h =
+      let l : 48 ≤ x = omega arith in
+      let m : x ≤ 57 = omega arith in
+      rw (le-leb 48 x l, le-leb x 57 m) (omega arith)
 
-    pub numeral_none : (o : ℕ) → o ≡ letter_value x → 10 ≤ r → o ≡ value_of x
-    unfolding value_of
-    numeral_none o k h = go (dec_lt x 48)
-      where
-        go : Dec (x < 48) → o ≡ value_of x
-        go (yes l) = rw (lt-leb 48 x l) k
-        go (no l) = let m : 57 < x = omega arith in rw (lt-leb x 57 m, and-false) k
+  pub numeral_none : (o : ℕ) → o ≡ letter_value x → 10 ≤ (x + 208) % 256 → o ≡ value_of x
+  unfolding value_of
+  numeral_none o k h = go (dec_lt x 48)
+    where
+      go : Dec (x < 48) → o ≡ value_of x
+      go (yes l) = rw (lt-leb 48 x l) k
+      go (no l) = let m : 57 < x = omega arith in rw (lt-leb x 57 m, and-false) k
 
 -- a letter's value is at most that of no digit
 pub letter_most : (x o : ℕ) → o ≡ letter_value x → o ≤ no_digit

@@ -6,18 +6,8 @@ ghost use Rattle.std.specs.Prelude.{◌≡◌, ◌*◌, ◌<◌, ◌≤◌, leng
 ghost use Rattle.buffer.specs.Put.{Put, Room};
 ghost use Rattle.hex_text.specs.Hex.{digit_of, pair_of, hex_of, no_digit, letter_value, value_of, byte_of, Unhexed};
 
-// What stands for the value of a byte that is no digit: above every digit's.
+// What stands for the value of a byte that is no digit: above every digit's. An Option of it costs branches, or more steps a digit.
 const NO_DIGIT: u8 = 16;
-
-// What stands for the byte of two that are not both digits: above every byte.
-const NO_BYTE: u16 = 256;
-
-// How many bytes a text of digits is, or that it is none.
-#[derive(Clone, Copy)]
-pub enum Digits {
-    Bytes(usize),
-    Bad,
-}
 
 // The digit of a value below 16.
 fn digit(value: u8) -> u8
@@ -45,10 +35,8 @@ pub fn put_hex(out: &mut [u8], at: usize, bytes: &[u8]) -> usize
     ensures { Put out.old at (hex_of bytes.now) out.new result }
 {
     let mut next = at;
-    let mut i: usize = 0;
-    while i < bytes.len() {
-        next = put_pair(out, next, bytes[i]);
-        i += 1;
+    for byte in bytes {
+        next = put_pair(out, next, *byte);
     }
     next
 }
@@ -57,57 +45,44 @@ pub fn put_hex(out: &mut [u8], at: usize, bytes: &[u8]) -> usize
 fn letter_value(digit: u8) -> u8
     ensures { result ≡ letter_value digit }
 {
-    let letter = std::num::wrapping_sub_u8(digit, b'a');
-    if letter < 6 {
-        return letter + 10;
-    }
-    NO_DIGIT
+    let letter = digit.wrapping_sub(b'a');
+    if letter < 6 { letter + 10 } else { NO_DIGIT }
 }
 
 // The value of a digit, or that there is none: both are worked out and one is taken, with no branch to guess.
 fn value(digit: u8) -> u8
     ensures { (result ≡ value_of digit) × (result ≤ no_digit) }
 {
-    let numeral = std::num::wrapping_sub_u8(digit, b'0');
+    let numeral = digit.wrapping_sub(b'0');
     let other = letter_value(digit);
-    if numeral < 10 {
-        return numeral;
-    }
-    other
+    if numeral < 10 { numeral } else { other }
 }
 
-// The byte of two digits, or that there is none.
-fn byte(high: u8, low: u8) -> u16
+// The byte of two digits.
+fn byte(high: u8, low: u8) -> Option<u8>
     ensures { result ≡ byte_of high low }
 {
-    let a = value(high);
-    let b = value(low);
-    if NO_DIGIT <= a {
-        return NO_BYTE;
+    let high = value(high);
+    let low = value(low);
+    if NO_DIGIT <= high || NO_DIGIT <= low {
+        return None;
     }
-    if NO_DIGIT <= b {
-        return NO_BYTE;
-    }
-    16 * a as u16 + b as u16
+    Some(16 * high + low)
 }
 
-// Writes the bytes of a text of digits at the start of the lent bytes, up to the first two that are no byte's.
-pub fn read_hex(word: &[u8], out: &mut [u8]) -> Digits
+// Writes the bytes of a text of digits at the start of the lent bytes, up to the first two that are no byte's, and gives how many a text of
+// digits alone is.
+pub fn read_hex(word: &[u8], out: &mut [u8]) -> Option<usize>
     requires { length word.now ≤ 2 * length out.old }
     ensures { Unhexed word.now out.old out.new result }
 {
-    let mut count: usize = 0;
-    let mut i: usize = 0;
-    while i < word.len() {
-        if word.len() - i < 2 {
-            return Digits::Bad;
-        }
-        let byte = byte(word[i], word[i + 1]);
-        if NO_BYTE <= byte {
-            return Digits::Bad;
-        }
-        count = buffer::put_byte(out, count, byte as u8);
-        i += 2;
+    // By position: chunks of two take a step more for each byte.
+    for i in 0..word.len() / 2 {
+        buffer::put_byte(out, i, byte(word[2 * i], word[2 * i + 1])?);
     }
-    Digits::Bytes(count)
+    if word.len() % 2 == 0 {
+        Some(word.len() / 2)
+    } else {
+        None
+    }
 }

@@ -8,11 +8,10 @@ ghost use Rattle.std.specs.Prelude.{◌≡◌, ◌++◌, ◌≤◌, take, drop};
 ghost use Rattle.ring.specs.Opening.{open_of, lent_after};
 ghost use Rattle.ring.specs.Tidying.{tidy_of, tidy_lent_after};
 
-use encode::Written;
 use lightpath::{Circuit, Place};
 use moves::Move;
 use refusals::{Refusal, Verdict};
-use ring::{Opened, Opening, RingTable, Tidied, Tidying};
+use ring::{Opened, RingTable, Taken, Tidied, TidyCounts};
 
 // The list to lend has two records more than a tidying asks for.
 const LENT: usize = 130;
@@ -27,21 +26,6 @@ const MARK: Move = Move {
     to: Place(9),
 };
 
-// A byte as a number to print.
-fn wide8(x: u8) -> u64 {
-    x as u64
-}
-
-// Two bytes as a number to print.
-fn wide16(x: u16) -> u64 {
-    x as u64
-}
-
-// Four bytes as a number to print.
-fn wide32(x: u32) -> u64 {
-    x as u64
-}
-
 // A word and a number.
 fn print(rt: &HostRuntime, word: &[u8], number: u64) {
     let _ = rt.write_all(word);
@@ -55,69 +39,49 @@ fn end_line(rt: &HostRuntime) {
 
 // The number of a refusal.
 fn print_refusal(rt: &HostRuntime, refusal: Refusal) {
-    print(rt, b" refused ", wide8(refusals::refusal_number(refusal)));
+    print(rt, b" refused ", u64::from(u8::from(refusal)));
 }
 
 // A record of the list that was lent.
 fn print_move(rt: &HostRuntime, record: Move) {
-    print(rt, b"move ", wide32(record.number));
-    print(rt, b" from ", wide8(record.from.0));
-    print(rt, b" to ", wide8(record.to.0));
+    print(rt, b"move ", u64::from(record.number));
+    print(rt, b" from ", u64::from(record.from.0));
+    print(rt, b" to ", u64::from(record.to.0));
     end_line(rt);
 }
 
 // Whether a record is as it stood before it was lent.
-fn marked(record: Move) -> bool {
-    if record.number != MARK.number {
-        return false;
-    }
-    if record.from.0 != MARK.from.0 {
-        return false;
-    }
-    record.to.0 == MARK.to.0
-}
-
-// A record is printed where it is a move's, and counted where it is another's that is as it stood.
-fn print_record(rt: &HostRuntime, record: Move, moved: bool) -> u64
-    ensures { result ≤ 1 }
-{
-    if moved {
-        print_move(rt, record);
-        return 0;
-    }
-    if !marked(record) {
-        return 0;
-    }
-    1
+fn marked(record: &Move) -> bool {
+    *record == MARK
 }
 
 // The first records of the list, as many as there are moves. It gives how many of the others are as they stood.
-fn print_moves(rt: &HostRuntime, moves: u8, list: Records) -> u64 {
-    let count = moves as usize;
-    let mut kept: u64 = 0;
-    for i in 0..LENT {
-        kept += print_record(rt, list[i], i < count);
+fn print_moves(rt: &HostRuntime, moves: u8, list: Records) -> usize {
+    let (moved, others) = list.split_at(LENT.min(usize::from(moves)));
+    for record in moved {
+        print_move(rt, *record);
     }
-    kept
+    others.iter().filter(|record| marked(record)).count()
 }
 
 // What came of an opening.
 fn print_opening(rt: &HostRuntime, circuit: Circuit, opened: Opened, list: Records) {
-    print(rt, b"open ", wide32(circuit.number));
-    let answer = opened.answer;
-    match answer {
-        Opening::Taken {
-            place,
-            moves,
-            looks,
-        } => {
-            print(rt, b" place ", wide8(place.0));
-            print(rt, b" moves ", wide8(moves));
-            print(rt, b" looks ", wide16(looks));
+    print(rt, b"open ", u64::from(circuit.number));
+    match opened.answer {
+        Ok(
+            Taken {
+                place,
+                moves,
+                looks,
+            },
+        ) => {
+            print(rt, b" place ", u64::from(place.0));
+            print(rt, b" moves ", u64::from(moves));
+            print(rt, b" looks ", u64::from(looks));
             end_line(rt);
             print_moves(rt, moves, list);
         }
-        Opening::Refused(refusal) => {
+        Err(refusal) => {
             print_refusal(rt, refusal);
             end_line(rt);
         }
@@ -127,73 +91,54 @@ fn print_opening(rt: &HostRuntime, circuit: Circuit, opened: Opened, list: Recor
 // The end of a tidying's line, its moves, and how many of the other records are as they stood.
 fn print_list(rt: &HostRuntime, moves: u8, list: Records) {
     end_line(rt);
-    print(rt, b"kept ", print_moves(rt, moves, list));
+    print(rt, b"kept ", print_moves(rt, moves, list) as u64);
     end_line(rt);
 }
 
 // What came of a tidying.
 fn print_tidying(rt: &HostRuntime, tidied: Tidied, list: Records) {
-    let answer = tidied.answer;
-    match answer {
-        Tidying::Done { rounds, moves } => {
-            print(rt, b" rounds ", wide8(rounds));
-            print(rt, b" moves ", wide8(moves));
+    match tidied.answer {
+        Ok(TidyCounts { rounds, moves }) => {
+            print(rt, b" rounds ", u64::from(rounds));
+            print(rt, b" moves ", u64::from(moves));
             print_list(rt, moves, list);
         }
-        Tidying::Refused(refusal) => {
+        Err(refusal) => {
             print_refusal(rt, refusal);
             print_list(rt, 0, list);
         }
     }
 }
 
-// The list as an opening left it, beside what came of it.
-#[derive(Clone, Copy)]
-struct OpenedList {
-    opened: Opened,
-    list: Records,
-}
-
-// A circuit is opened with the list lent.
-fn open_lent(table: RingTable, circuit: Circuit, mut list: Records) -> OpenedList
-    ensures { result ≡ record { opened = open_of table circuit list; list = lent_after table circuit list } }
+// A circuit is opened with the list lent. It gives what came of it, and the list as it left it.
+fn open_lent(table: RingTable, circuit: Circuit, mut list: Records) -> (Opened, Records)
+    ensures { result ≡ (open_of table circuit list, lent_after table circuit list) }
 {
     let opened = table.open(circuit, &mut list);
-    OpenedList { opened, list }
+    (opened, list)
 }
 
 // A circuit is opened with all the records, and the table after it is handed on.
 fn open_circuit(rt: &HostRuntime, table: RingTable, circuit: Circuit) -> RingTable {
-    let lent = open_lent(table, circuit, [MARK; LENT]);
-    let opened = lent.opened;
-    let list = lent.list;
+    let (opened, list) = open_lent(table, circuit, [MARK; LENT]);
     print_opening(rt, circuit, opened, list);
     opened.table
 }
 
-// The list as a tidying left it, beside what came of it.
-#[derive(Clone, Copy)]
-struct TidiedList {
-    tidied: Tidied,
-    list: Records,
-}
-
-// A ring is tidied with so many records of the list lent.
-fn tidy_lent(table: RingTable, room: usize, mut list: Records) -> TidiedList
+// A ring is tidied with so many records of the list lent. It gives what came of it, and the list as it left it.
+fn tidy_lent(table: RingTable, room: usize, mut list: Records) -> (Tidied, Records)
     requires { room ≤ 130 }
-    ensures { result ≡ record { tidied = tidy_of table (take room list); list = tidy_lent_after table (take room list) ++ drop room list } }
+    ensures { result ≡ (tidy_of table (take room list), tidy_lent_after table (take room list) ++ drop room list) }
 {
     let tidied = table.tidy(&mut list[..room]);
-    TidiedList { tidied, list }
+    (tidied, list)
 }
 
 // A ring is tidied with so many records, and the table after it is handed on.
 fn tidy_ring(rt: &HostRuntime, table: RingTable, room: usize) -> RingTable
     requires { room ≤ 130 }
 {
-    let lent = tidy_lent(table, room, [MARK; LENT]);
-    let tidied = lent.tidied;
-    let list = lent.list;
+    let (tidied, list) = tidy_lent(table, room, [MARK; LENT]);
     print(rt, b"tidy with ", room as u64);
     print_tidying(rt, tidied, list);
     tidied.table
@@ -202,8 +147,8 @@ fn tidy_ring(rt: &HostRuntime, table: RingTable, room: usize) -> RingTable
 // The end of a line, with the refusal if there is one.
 fn print_verdict(rt: &HostRuntime, verdict: Verdict) {
     match verdict {
-        Verdict::Granted => {}
-        Verdict::Refused(refusal) => print_refusal(rt, refusal),
+        Ok(()) => {}
+        Err(refusal) => print_refusal(rt, refusal),
     }
     end_line(rt);
 }
@@ -212,7 +157,7 @@ fn print_verdict(rt: &HostRuntime, verdict: Verdict) {
 fn close_circuit(rt: &HostRuntime, table: RingTable, number: u32) -> RingTable {
     let closed = table.close(number);
     let verdict = closed.verdict;
-    print(rt, b"close ", wide32(number));
+    print(rt, b"close ", u64::from(number));
     print_verdict(rt, verdict);
     closed.table
 }
@@ -222,8 +167,8 @@ fn make_ring(rt: &HostRuntime, nodes: u8, ports: &[u8]) -> RingTable {
     let made = RingTable::make(nodes, ports);
     let table = made.table;
     let verdict = made.verdict;
-    print(rt, b"ring ", wide8(table.nodes));
-    print(rt, b" wavelengths ", wide16(table.wavelengths()));
+    print(rt, b"ring ", u64::from(table.nodes));
+    print(rt, b" wavelengths ", u64::from(table.wavelengths()));
     print_verdict(rt, verdict);
     table
 }
@@ -305,10 +250,9 @@ fn save_ring(rt: &HostRuntime, table: RingTable, room: usize) {
         return;
     }
     print(rt, b"write to ", room as u64);
-    let written = encode::write(table, &mut lent[..room]);
-    match written {
-        Written::Length(length) => print(rt, b" length ", length as u64),
-        Written::Refused(refusal) => print_refusal(rt, refusal),
+    match encode::write(table, &mut lent[..room]) {
+        Ok(length) => print(rt, b" length ", length as u64),
+        Err(refusal) => print_refusal(rt, refusal),
     }
     end_line(rt);
 }
@@ -320,8 +264,8 @@ fn report_loads(rt: &HostRuntime, table: RingTable, room: usize) {
         return;
     }
     let verdict = load::report(table, &mut lent[..room]);
-    print(rt, b"load ", wide8(lent[0]));
-    print(rt, b" ", wide8(lent[1]));
+    print(rt, b"load ", u64::from(lent[0]));
+    print(rt, b" ", u64::from(lent[1]));
     print_verdict(rt, verdict);
 }
 

@@ -6,10 +6,8 @@ use native.Mathlib.Omega.{arith}
 use lib.ListN.{length}
 use borrow.Author.Tests.{lt-ltb, le-ltb, ne_eqb}
 use Rattle.lightpath.specs.declared.Circuit.{Circuit}
-use Rattle.refusals.specs.Refusal.{number_of}
+use Rattle.refusals.specs.Refusal.{number_of, Verdict}
 use Rattle.refusals.specs.declared.Refusal.{Refusal}
-use Rattle.refusals.specs.declared.Verdict.{Verdict}
-use Rattle.refusals.specs.declared.Verdict.TheVariants.{Granted as granted, Refused as refused}
 use Rattle.refusals.proofs.Bytes.{number_byte}
 use Rattle.form.specs.Form.{longest_form}
 use Rattle.link_question.specs.Link.{no_circuit, refusal_of}
@@ -21,13 +19,14 @@ use Rattle.hex_text.proofs.Writing.{hex_long}
 use Rattle.print.specs.Answers.{piece, line_of}
 use Rattle.print.specs.Filled.{filled, filled_room}
 use Rattle.inventory.specs.Lines.{read_line, read_room, form_line, form_room, length_line, length_room, number_room, link_line, link_room, circuit_line, circuit_line_room}
+use Rattle.std.specs.Prelude.{Ok, Err}
 
 module _ (l l' : List ℕ) (at e : ℕ) where
-  pub read_made : (n w : ℕ) (v : Verdict) → v ≡ granted → Printed read_room l at (filled (bytes "read # wavelengths #\n") n w 0 0) l' e → Printed read_room l at (read_line n w v) l' e
+  pub read_made : (n w : ℕ) (v : Verdict) → v ≡ Ok tt → Printed read_room l at (filled (bytes "read # wavelengths #\n") n w 0 0) l' e → Printed read_room l at (read_line n w v) l' e
   unfolding filled piece
   read_made n w v h p = rw h p
 
-  pub read_refused : (n w : ℕ) (v : Verdict) (r : Refusal) → v ≡ refused r → Printed (filled_room (bytes "read refused #\n")) l at (filled (bytes "read refused #\n") (number_of r) 0 0 0) l' e
+  pub read_refused : (n w : ℕ) (v : Verdict) (r : Refusal) → v ≡ Err r → Printed (filled_room (bytes "read refused #\n")) l at (filled (bytes "read refused #\n") (number_of r) 0 0 0) l' e
       → Printed read_room l at (read_line n w v) l' e
   unfolding filled piece
   read_refused n w v r h p = record { put = rw h p.put; short = omega (arith, p.short) }

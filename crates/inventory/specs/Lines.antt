@@ -1,13 +1,11 @@
 -- What is printed in answer to `read`, `write`, `load`, `link` and `circuits`. Assumes nothing.
-use Rattle.std.specs.Prelude.{ℕ, suc, ◌+◌, ◌*◌, ◌%◌, List, [], ◌∷◌, ◌++◌, eqb, ltb, length}
+use Rattle.std.specs.Prelude.{ℕ, suc, ◌+◌, ◌*◌, ◌%◌, List, [], ◌∷◌, ◌++◌, eqb, ltb, length, Ok, Err}
 use Rattle.basis.specs.Choice.{pick}
 use Rattle.limits.specs.Limits.{circuit_room}
 use Rattle.lightpath.specs.declared.Circuit.{Circuit}
 use Rattle.slots.specs.Slot.{held}
 use Rattle.channels.specs.Channels.{Channels, circuits}
-use Rattle.refusals.specs.Refusal.{number_of}
-use Rattle.refusals.specs.declared.Verdict.{Verdict}
-use Rattle.refusals.specs.declared.Verdict.TheVariants.{Granted as granted, Refused as refused}
+use Rattle.refusals.specs.Refusal.{number_of, Verdict}
 use Rattle.link_question.specs.Link.{no_circuit}
 use Rattle.text.specs.Bytes.{bytes}
 use Rattle.hex_text.specs.Hex.{hex_of}
@@ -16,8 +14,8 @@ use Rattle.print.specs.Filled.{filled_room}
 
 -- `read N wavelengths W`, or `read refused R`
 abbrev pub read_line : ℕ → ℕ → Verdict → List ℕ
-read_line n w granted = line_of (("read ", n) ∷ (" wavelengths ", w) ∷ [])
-read_line n w (refused r) = line_of (("read refused ", number_of r) ∷ [])
+read_line n w (Ok _) = line_of (("read ", n) ∷ (" wavelengths ", w) ∷ [])
+read_line n w (Err r) = line_of (("read refused ", number_of r) ∷ [])
 
 -- `write LENGTH HEX`
 unfoldable pub form_line : List ℕ → List ℕ

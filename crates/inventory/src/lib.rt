@@ -23,7 +23,7 @@ pub fn put_read(out: &mut [u8], at: usize, nodes: u8, wavelengths: u16, verdict:
     ensures { Printed read_room out.old at (read_line nodes wavelengths verdict) out.new result }
 {
     match verdict {
-        Verdict::Granted => print::put_filled(
+        Ok(()) => print::put_filled(
             out,
             at,
             b"read # wavelengths #\n",
@@ -32,7 +32,7 @@ pub fn put_read(out: &mut [u8], at: usize, nodes: u8, wavelengths: u16, verdict:
             0,
             0,
         ),
-        Verdict::Refused(refusal) => print::put_refusal(out, at, b"read refused #\n", refusal),
+        Err(refusal) => print::put_refusal(out, at, b"read refused #\n", refusal),
     }
 }
 
@@ -68,10 +68,8 @@ fn put_numbers(out: &mut [u8], at: usize, loads: &[u8]) -> usize
     ensures { Printed (numbers_room (length loads.now)) out.old at (numbers_line loads.now) out.new result }
 {
     let mut next = at;
-    let mut i: usize = 0;
-    while i < loads.len() {
-        next = put_load(out, next, loads[i]);
-        i += 1;
+    for load in loads {
+        next = put_load(out, next, *load);
     }
     buffer::put_byte(out, next, b'\n')
 }
@@ -145,12 +143,8 @@ fn put_places(out: &mut [u8], at: usize, channels: [Channel; PLACE_COUNT]) -> us
     ensures { Printed places_room out.old at (place_lines 0 channels) out.new result }
 {
     let mut next = at;
-    let mut p: usize = 0;
-    while p < PLACE_COUNT {
-        let channel = channels[p];
-        let slot = channel.slot;
-        next = put_slot(out, next, slot, p as u32);
-        p += 1;
+    for (p, channel) in channels.iter().enumerate() {
+        next = put_slot(out, next, channel.slot, p as u32);
     }
     next
 }

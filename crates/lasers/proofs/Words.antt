@@ -7,33 +7,31 @@ use Rattle.lightpath.specs.declared.Wavelength.{Wavelength}
 use Rattle.refusals.specs.Refusal.{number_of}
 use Rattle.refusals.specs.declared.Refusal.{Refusal}
 use Rattle.grid.specs.declared.Frequency.{Frequency}
-use Rattle.grid.specs.declared.Tuned.{Tuned}
-use Rattle.grid.specs.declared.Tuned.TheVariants.{To, Refused as not_tuned}
-use Rattle.grid.specs.declared.Carried.{Carried}
-use Rattle.grid.specs.declared.Carried.TheVariants.{By, Refused as not_carried}
 use Rattle.buffer.specs.Put.{Printed}
 use Rattle.text.specs.Bytes.{bytes}
 use Rattle.print.specs.Answers.{piece}
 use Rattle.print.specs.Filled.{filled, filled_room}
 use Rattle.lasers.specs.Lines.{frequency_line, frequency_room, wavelength_line, wavelength_room}
+use Rattle.grid.specs.Tuning.{Carried, Tuned}
+use Rattle.std.specs.Prelude.{Ok, Err}
 
 module _ (l l' : List ℕ) (at e : ℕ) where
-  pub frequency_told : (t : Tuned) (f : Frequency) → t ≡ To f → Printed (filled_room (bytes "frequency #\n")) l at (filled (bytes "frequency #\n") f.0 0 0 0) l' e
+  pub frequency_told : (t : Tuned) (f : Frequency) → t ≡ Ok f → Printed (filled_room (bytes "frequency #\n")) l at (filled (bytes "frequency #\n") f.0 0 0 0) l' e
       → Printed frequency_room l at (frequency_line t) l' e
   unfolding filled piece
   frequency_told t f h p = record { put = rw h p.put; short = omega (arith, p.short) }
 
-  pub frequency_refused : (t : Tuned) (r : Refusal) → t ≡ not_tuned r → Printed frequency_room l at (filled (bytes "frequency refused #\n") (number_of r) 0 0 0) l' e
+  pub frequency_refused : (t : Tuned) (r : Refusal) → t ≡ Err r → Printed frequency_room l at (filled (bytes "frequency refused #\n") (number_of r) 0 0 0) l' e
       → Printed frequency_room l at (frequency_line t) l' e
   unfolding filled piece
   frequency_refused t r h p = rw h p
 
-  pub wavelength_told : (c : Carried) (w : Wavelength) → c ≡ By w → Printed (filled_room (bytes "wavelength #\n")) l at (filled (bytes "wavelength #\n") w.0 0 0 0) l' e
+  pub wavelength_told : (c : Carried) (w : Wavelength) → c ≡ Ok w → Printed (filled_room (bytes "wavelength #\n")) l at (filled (bytes "wavelength #\n") w.0 0 0 0) l' e
       → Printed wavelength_room l at (wavelength_line c) l' e
   unfolding filled piece
   wavelength_told c w h p = record { put = rw h p.put; short = omega (arith, p.short) }
 
-  pub wavelength_refused : (c : Carried) (r : Refusal) → c ≡ not_carried r → Printed wavelength_room l at (filled (bytes "wavelength refused #\n") (number_of r) 0 0 0) l' e
+  pub wavelength_refused : (c : Carried) (r : Refusal) → c ≡ Err r → Printed wavelength_room l at (filled (bytes "wavelength refused #\n") (number_of r) 0 0 0) l' e
       → Printed wavelength_room l at (wavelength_line c) l' e
   unfolding filled piece
   wavelength_refused c r h p = rw h p

@@ -15,12 +15,8 @@ fn put_frequency(out: &mut [u8], at: usize, tuned: Tuned) -> usize
     ensures { Printed frequency_room out.old at (frequency_line tuned) out.new result }
 {
     match tuned {
-        Tuned::To(frequency) => {
-            print::put_filled(out, at, b"frequency #\n", frequency.0, 0, 0, 0)
-        }
-        Tuned::Refused(refusal) => {
-            print::put_refusal(out, at, b"frequency refused #\n", refusal)
-        }
+        Ok(frequency) => { print::put_filled(out, at, b"frequency #\n", frequency.0, 0, 0, 0) }
+        Err(refusal) => { print::put_refusal(out, at, b"frequency refused #\n", refusal) }
     }
 }
 
@@ -30,12 +26,10 @@ fn put_wavelength(out: &mut [u8], at: usize, carried: Carried) -> usize
     ensures { Printed wavelength_room out.old at (wavelength_line carried) out.new result }
 {
     match carried {
-        Carried::By(wavelength) => {
+        Ok(wavelength) => {
             print::put_filled(out, at, b"wavelength #\n", wavelength.0 as u32, 0, 0, 0)
         }
-        Carried::Refused(refusal) => {
-            print::put_refusal(out, at, b"wavelength refused #\n", refusal)
-        }
+        Err(refusal) => { print::put_refusal(out, at, b"wavelength refused #\n", refusal) }
     }
 }
 

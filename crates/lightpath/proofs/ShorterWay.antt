@@ -12,7 +12,7 @@ use Rattle.basis.specs.Count.{count_below}
 use Rattle.basis.proofs.Below.{count_same, count_balance, count_none, count_every, count_less}
 use Rattle.basis.proofs.Compare.{ltb_same}
 use Rattle.lightpath.specs.Place.{Direction, clockwise, counterclockwise, other_way}
-use Rattle.lightpath.specs.Circuit.{Circuit, hops, uses, links_over, links_used, short_clockwise, shorter_way}
+use Rattle.lightpath.specs.Circuit.{Circuit, uses, links_over, links_used, short_clockwise, shorter_way}
 use Rattle.lightpath.specs.Ends.{start_of, stop_of}
 use Rattle.lightpath.proofs.Links.{OnRing, Ahead, ahead_cases}
 use Rattle.lightpath.proofs.Onward.{arc}
@@ -67,22 +67,6 @@ module _ (N : ℕ) (c : Circuit) where
       go : (w : Direction) → shorter_way N c ≡ w → links_used N w c ≤ N / 2
       go clockwise e = omega (arith, clockwise_fewer e)
       go counterclockwise e = omega (arith, counterclockwise_fewer e)
-
-  -- it is known by the hops h and the other links k
-  module _ (h k : ℕ) (e : h ≡ hops N c) (f : k ≡ N - h) where
-    pub is_clockwise : h ≤ k → clockwise ≡ shorter_way N c
-    is_clockwise l = go (shorter_way N c) refl
-      where
-        go : (w : Direction) → shorter_way N c ≡ w → clockwise ≡ w
-        go clockwise w = refl
-        go counterclockwise w = absurd (omega (arith, counterclockwise_fewer w))
-
-    pub is_counterclockwise : k < h → counterclockwise ≡ shorter_way N c
-    is_counterclockwise l = go (shorter_way N c) refl
-      where
-        go : (w : Direction) → shorter_way N c ≡ w → counterclockwise ≡ w
-        go clockwise w = absurd (omega (arith, clockwise_fewer w))
-        go counterclockwise w = refl
 
 -- the links below node s
 links_below : (N s : ℕ) → 1 ≤ s → s ≤ N → count_below N (λ i. ltb (suc i) s) ≡ s - 1

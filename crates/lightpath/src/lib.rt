@@ -5,26 +5,26 @@
 
 ghost use Rattle.std.specs.Prelude.{◌≡◌, ◌+◌, ◌*◌, ◌<◌};
 ghost use Rattle.limits.specs.Limits.{place_count};
-ghost use Rattle.lightpath.specs.Place.{place_of, wavelength_of, direction_of, same_direction, other_way};
+ghost use Rattle.lightpath.specs.Place.{place_of, wavelength_of, direction_of, other_way};
 ghost use Rattle.lightpath.specs.Circuit.{on_ring, joins, ahead, hops, uses, shorter_way, adjacent, can_share, share_direction};
 
 // The two ways round the ring.
-#[derive(Clone, Copy)]
+#[derive(Clone, Copy, Debug, PartialEq, Eq)]
 pub enum Direction {
     Clockwise,
     Counterclockwise,
 }
 
 // A wavelength number: it counts within one direction.
-#[derive(Clone, Copy)]
+#[derive(Clone, Copy, Debug, PartialEq, Eq)]
 pub struct Wavelength(pub u8);
 
 // A directed wavelength number, which document 01 calls a place: it counts both directions.
-#[derive(Clone, Copy)]
+#[derive(Clone, Copy, Debug, PartialEq, Eq)]
 pub struct Place(pub u8);
 
 // A circuit from one node to another. Several may join the same nodes; a remark of 0 is none, and so is an account of 0.
-#[derive(Clone, Copy)]
+#[derive(Clone, Copy, Debug, PartialEq, Eq)]
 pub struct Circuit {
     pub number: u32,
     pub source: u8,
@@ -43,22 +43,6 @@ pub const BLANK_CIRCUIT: Circuit = Circuit {
 };
 
 impl Direction {
-    // Whether the two are one direction.
-    pub fn same(self, other: Direction) -> bool
-        ensures { result ≡ same_direction self other }
-    {
-        match self {
-            Direction::Clockwise => match other {
-                Direction::Clockwise => true,
-                Direction::Counterclockwise => false,
-            },
-            Direction::Counterclockwise => match other {
-                Direction::Clockwise => false,
-                Direction::Counterclockwise => true,
-            },
-        }
-    }
-
     // The other way round.
     pub fn other(self) -> Direction
         ensures { result ≡ other_way self }
@@ -107,7 +91,7 @@ impl Place {
 pub fn on_ring(nodes: u8, node: u8) -> bool
     ensures { result ≡ on_ring nodes node }
 {
-    1 <= node && node <= nodes
+    (1..=nodes).contains(&node)
 }
 
 // The number of links clockwise from one node to another.
@@ -115,12 +99,7 @@ pub fn links_ahead(nodes: u8, from: u8, to: u8) -> u16
     requires { 0 < nodes }
     ensures { (result ≡ ahead nodes from to) × (result < nodes) }
 {
-    let end = to as u16 + nodes as u16;
-    let start = from as u16;
-    if end < start {
-        return 0;
-    }
-    (end - start) % nodes as u16
+    (u16::from(to) + u16::from(nodes)).saturating_sub(u16::from(from)) % u16::from(nodes)
 }
 
 impl Circuit {
@@ -128,13 +107,9 @@ impl Circuit {
     pub fn joins(self, nodes: u8) -> bool
         ensures { result ≡ joins nodes self }
     {
-        if !on_ring(nodes, self.source) {
-            return false;
-        }
-        if !on_ring(nodes, self.destination) {
-            return false;
-        }
-        self.source != self.destination
+        on_ring(nodes, self.source)
+            && on_ring(nodes, self.destination)
+            && self.source != self.destination
     }
 
     // The number of links that the circuit uses clockwise.
@@ -154,7 +129,7 @@ impl Circuit {
         let hops = self.hops(nodes);
         match direction {
             Direction::Clockwise => distance < hops,
-            Direction::Counterclockwise => !(distance < hops),
+            Direction::Counterclockwise => hops <= distance,
         }
     }
 
@@ -164,8 +139,7 @@ impl Circuit {
         ensures { result ≡ shorter_way nodes self }
     {
         let hops = self.hops(nodes);
-        let others = nodes as u16 - hops;
-        if hops <= others {
+        if hops <= u16::from(nodes) - hops {
             Direction::Clockwise
         } else {
             Direction::Counterclockwise
@@ -190,8 +164,8 @@ impl Circuit {
         }
         let total = self.hops(nodes) + other.hops(nodes);
         match direction {
-            Direction::Clockwise => total <= nodes as u16,
-            Direction::Counterclockwise => nodes as u16 <= total,
+            Direction::Clockwise => total <= u16::from(nodes),
+            Direction::Counterclockwise => u16::from(nodes) <= total,
         }
     }
 

@@ -1,6 +1,6 @@
 -- 01, "Load and link": the one-link question of a ring table: link l, wavelength w and direction d, each a number. It gives a 64-bit
 -- number: below 4,294,967,296 a circuit's number, from there on none or a refusal. Assumes nothing. What `link_of` and `ring_link` promise.
-use Rattle.std.specs.Prelude.{ℕ, ◌+◌, not, List, [], ◌∷◌, eqb, ltb}
+use Rattle.std.specs.Prelude.{ℕ, ◌+◌, not, List, [], ◌∷◌, eqb, ltb, Option, Some, None, Ok, Err}
 use Rattle.basis.specs.Choice.{pick}
 use Rattle.lightpath.specs.Place.{place_of}
 use Rattle.lightpath.specs.Circuit.{on_ring, uses}
@@ -10,16 +10,19 @@ use Rattle.lightpath.specs.declared.Direction.TheVariants.{Clockwise as clockwis
 use Rattle.slots.specs.Slot.{held}
 use Rattle.channels.specs.Channels.{at}
 use Rattle.ports.specs.Ports.{wavelengths}
-use Rattle.refusals.specs.Refusal.{number_of, Cause, ◌if◌, judged}
+use Rattle.refusals.specs.Refusal.{number_of, Cause, ◌if◌, judged, Verdict}
 use Rattle.refusals.specs.declared.Refusal.{Refusal}
 use Rattle.refusals.specs.declared.Refusal.TheVariants.{OffRing as no_10, NoWavelength as no_16, NoDirection as no_17}
-use Rattle.refusals.specs.declared.Verdict.{Verdict}
-use Rattle.refusals.specs.declared.Verdict.TheVariants.{Granted as granted, Refused as refused}
 use Rattle.ring.specs.declared.RingTable.{RingTable}
 
 -- 4,294,967,296 for none
 abbrev pub no_circuit : ℕ
 no_circuit = 4294967296
+
+-- a circuit's number, or that
+abbrev pub number_or_none : Option ℕ → ℕ
+number_or_none (Some n) = n
+number_or_none None = no_circuit
 
 -- that plus the refusal number for a refusal
 abbrev pub refusal_of : Refusal → ℕ
@@ -49,8 +52,8 @@ link_verdict t l w d = judged (link_causes t l w d)
 
 -- one that is not refused is answered with the circuit there
 abbrev pub link_by : RingTable → ℕ → ℕ → ℕ → Verdict → ℕ
-link_by t l w d granted = circuit_on t l w (way d)
-link_by t l w d (refused r) = refusal_of r
+link_by t l w d (Ok _) = circuit_on t l w (way d)
+link_by t l w d (Err r) = refusal_of r
 
 unfoldable pub link_of : RingTable → ℕ → ℕ → ℕ → ℕ
 link_of t l w d = link_by t l w d (link_verdict t l w d)

@@ -6,7 +6,7 @@ ghost use Rattle.std.specs.Prelude.{◌≡◌, true, ◌<◌};
 ghost use Rattle.lightpath.specs.Circuit.{on_ring};
 ghost use Rattle.slots.specs.Slot.{held};
 ghost use Rattle.ring.specs.Table.{meets_rules};
-ghost use Rattle.link_question.specs.Link.{refusal_of, way, running, circuit_on, link_verdict, link_of};
+ghost use Rattle.link_question.specs.Link.{refusal_of, number_or_none, way, running, circuit_on, link_verdict, link_of};
 ghost use Rattle.link_question.specs.Asked.{Asked};
 
 use lightpath::{Direction, Wavelength};
@@ -21,7 +21,7 @@ pub const NO_CIRCUIT: u64 = 4294967296;
 pub fn refused(refusal: Refusal) -> u64
     ensures { result ≡ refusal_of refusal }
 {
-    NO_CIRCUIT + refusals::refusal_number(refusal) as u64
+    NO_CIRCUIT + u8::from(refusal) as u64
 }
 
 // The direction of a number: 0 clockwise, 1 counterclockwise.
@@ -29,32 +29,33 @@ fn way(direction: u64) -> Direction
     ensures { result ≡ way direction }
 {
     if direction == 0 {
-        return Direction::Clockwise;
+        Direction::Clockwise
+    } else {
+        Direction::Counterclockwise
     }
-    Direction::Counterclockwise
 }
 
-// Of the circuits of a place, lightpaths in its direction, the one that uses a link.
-fn running(nodes: u8, direction: Direction, link: u8, slot: Slot) -> u64
+// Of the circuits of a place, lightpaths in its direction, the number of the one that uses a link.
+fn running(nodes: u8, direction: Direction, link: u8, slot: Slot) -> Option<u32>
     requires { 0 < nodes }
-    ensures { result ≡ running nodes direction link (held slot) }
+    ensures { number_or_none result ≡ running nodes direction link (held slot) }
 {
     match slot {
-        Slot::Unlit => NO_CIRCUIT,
+        Slot::Unlit => None,
         Slot::Alone(a) => {
             if a.uses(nodes, direction, link) {
-                return a.number as u64;
+                return Some(a.number);
             }
-            NO_CIRCUIT
+            None
         }
         Slot::Shared(a, b) => {
             if a.uses(nodes, direction, link) {
-                return a.number as u64;
+                return Some(a.number);
             }
             if b.uses(nodes, direction, link) {
-                return b.number as u64;
+                return Some(b.number);
             }
-            NO_CIRCUIT
+            None
         }
     }
 }
@@ -63,7 +64,7 @@ fn running(nodes: u8, direction: Direction, link: u8, slot: Slot) -> u64
 fn is_link(nodes: u8, link: u64) -> bool
     ensures { result ≡ on_ring nodes link }
 {
-    1 <= link && link <= nodes as u64
+    1 <= link && link <= u64::from(nodes)
 }
 
 // Whether the link, the wavelength and the direction asked for are there.
@@ -71,26 +72,25 @@ fn judge(table: RingTable, link: u64, wavelength: u64, direction: u64) -> Verdic
     ensures { result ≡ link_verdict table link wavelength direction }
 {
     if !is_link(table.nodes, link) {
-        return Verdict::Refused(Refusal::OffRing);
+        return Err(Refusal::OffRing);
     }
     if table.wavelengths() as u64 <= wavelength {
-        return Verdict::Refused(Refusal::NoWavelength);
+        return Err(Refusal::NoWavelength);
     }
     if 2 <= direction {
-        return Verdict::Refused(Refusal::NoDirection);
+        return Err(Refusal::NoDirection);
     }
-    Verdict::Granted
+    Ok(())
 }
 
-// The circuit on the link, on the wavelength in the direction asked for.
-fn circuit_on(table: RingTable, link: u64, wavelength: u64, direction: u64) -> u64
+// The number of the circuit on the link, on the wavelength in the direction asked for.
+fn circuit_on(table: RingTable, link: u64, wavelength: u64, direction: u64) -> Option<u32>
     requires { Asked table link wavelength }
-    ensures { result ≡ circuit_on table link wavelength (way direction) }
+    ensures { number_or_none result ≡ circuit_on table link wavelength (way direction) }
 {
-    let channels = table.channels;
     let direction = way(direction);
     let place = Wavelength(wavelength as u8).place(direction);
-    let slot = channels::slot_at(channels, place.0 as usize);
+    let slot = channels::slot_at(table.channels, place.0 as usize);
     running(table.nodes, direction, link as u8, slot)
 }
 
@@ -99,9 +99,11 @@ pub fn link_of(table: RingTable, link: u64, wavelength: u64, direction: u64) -> 
     requires { meets_rules table ≡ true }
     ensures { result ≡ link_of table link wavelength direction }
 {
-    let verdict = judge(table, link, wavelength, direction);
-    match verdict {
-        Verdict::Granted => circuit_on(table, link, wavelength, direction),
-        Verdict::Refused(refusal) => refused(refusal),
+    match judge(table, link, wavelength, direction) {
+        Ok(()) => match circuit_on(table, link, wavelength, direction) {
+            Some(number) => u64::from(number),
+            None => NO_CIRCUIT,
+        },
+        Err(refusal) => refused(refusal),
     }
 }

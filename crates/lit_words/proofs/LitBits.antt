@@ -5,9 +5,7 @@ use mathlib.Core.Bool.{Bool, true, false, not}
 use native.Mathlib.Nat.{zero-add}
 use native.Mathlib.Omega.{arith}
 use lib.Dec.{ltb}
-use lib.Count.{ones, ones-le, count_trailing_zeros, trailing_le}
-use mir.Syntax.{w32}
-use mir.Val.{Fits}
+use lib.Count.{ones, count_trailing_zeros}
 use borrow.Author.Tests.{lt-ltb, le-ltb, ltb-true, ltb-false}
 use Rattle.basis.specs.Count.{count_below}
 use Rattle.basis.specs.Search.{first_below}
@@ -69,10 +67,3 @@ words_say f p h = go (ltb p 64) refl
         let l : 64 ≤ p = ltb-false p 64 e in
         let g : 64 + (p - 64) ≡ p = omega arith in
         simp (e, word_bit f 64 64 (p - 64) (omega arith), g)
-
--- both counts are small
-pub ones_fit : (v w : ℕ) → v < 2 ^ 64 → w < 2 ^ 64 → Fits w32 (ones v + ones w)
-ones_fit v w h k = omega (arith, ones-le 64 v h, ones-le 64 w k)
-
-pub unlit_fits : (w : ℕ) → Fits w32 (64 + count_trailing_zeros 64 w)
-unlit_fits w = omega (arith, trailing_le 64 w)

@@ -1,8 +1,9 @@
 -- The places of one direction in the words: their bits, and the lowest unlit one of them. Assumes nothing.
-use Prim.Native.Nat.{ℕ, zero, suc, ◌+◌, ◌-◌, ◌*◌, ◌/◌, ◌%◌, ◌^◌, ◌≤◌, ◌<◌, max}
+use Prim.Native.Nat.{ℕ, zero, suc, ◌+◌, ◌-◌, ◌*◌, ◌/◌, ◌%◌, ◌^◌, ◌≤◌, ◌<◌, min, max}
 use mathlib.Core.Path.{◌≡◌, refl, ap, ◌∙◌}
 use mathlib.Core.Bool.{Bool, true, false, ◌&&◌, ◌||◌, not}
 use native.Mathlib.Nat.{zero-add}
+use native.Mathlib.Decide.{dec_lt}
 use native.Mathlib.Omega.{arith}
 use lib.Bits.{bit_or, or_step, or_shr}
 use lib.Dec.{eqb, ltb}
@@ -26,10 +27,6 @@ clockwise_places d e = rw e refl
 pub counterclockwise_places : (d : Direction) → d ≡ counterclockwise → 12297829382473034410 ≡ places_of d
 unfolding places_of word
 counterclockwise_places d e = rw e refl
-
--- the words with all places of a direction, by these
-pub way_words : (l : Lit) (d : Direction) (q : ℕ) → q ≡ places_of d → record { low = bit_or l.low q; high = bit_or l.high q } ≡ with_way l d
-way_words l d q e = rw e
 
 -- a digit of an `or` stands where that of one of the two does
 digit_or : (x y z : ℕ) → x < 2 → y < 2 → eqb ((z * 2 + max x y) % 2) 1 ≡ (eqb x 1 || eqb y 1)
@@ -93,3 +90,11 @@ module _ (l w : Lit) (d e : Direction) (m u : ℕ) (other : e ≡ other_way d) (
   pub lowest_none : m ≤ u → m ≡ unlit_in l d m
   unfolding unlit_in
   lowest_none k = none_within m place_count (λ p. not (lit_bit l p) && same_direction (direction_of p) d) u lowest k
+
+  -- so that place, or the limit where it is not below it, is the one
+  pub lowest_below : (r : ℕ) → m ≤ place_count → r ≡ min u m → r ≡ unlit_in l d m
+  lowest_below r h k = go (dec_lt u m)
+    where
+      go : Dec (u < m) → r ≡ unlit_in l d m
+      go (yes b) = let e : r ≡ u = omega arith in e ∙ lowest_within h b
+      go (no b) = let e : r ≡ m = omega arith in e ∙ lowest_none (omega arith)

@@ -2,3 +2,4 @@
 pub mod Lit
 pub mod With
 pub mod Unlit
+pub mod Sets

@@ -3,14 +3,16 @@
 
 #![tactic(auto)]
 
-ghost use Rattle.std.specs.Prelude.{◌<◌, ◌≤◌, ◌≡◌, ◌||◌, not, ltb};
+ghost use Rattle.std.specs.Prelude.{◌<◌, ◌≤◌, ◌≡◌};
 ghost use Rattle.limits.specs.Limits.{place_count};
 ghost use Rattle.lit_words.specs.Lit.{lit_bit, ones_of, none_lit_from};
 ghost use Rattle.lit_words.specs.With.{with_place, RoomFor};
+ghost use Rattle.lit_words.specs.Sets.{either_of, both_of};
 ghost use Rattle.lit_words.specs.Unlit.{unlit_by, unlit_in, places_of, with_way};
 
 use lightpath::Direction;
 use limits::PLACE_COUNT;
+use std::ops::{BitAnd, BitOr};
 
 // The clockwise places as the bits of a word: the even ones.
 const CLOCKWISE_PLACES: u64 = 0x5555555555555555;
@@ -19,7 +21,7 @@ const CLOCKWISE_PLACES: u64 = 0x5555555555555555;
 const COUNTERCLOCKWISE_PLACES: u64 = 0xaaaaaaaaaaaaaaaa;
 
 // The lit places: place p is bit p of low, or bit p - 64 of high.
-#[derive(Clone, Copy)]
+#[derive(Clone, Copy, Debug, PartialEq, Eq)]
 pub struct Lit {
     pub low: u64,
     pub high: u64,
@@ -42,50 +44,36 @@ impl Lit {
         ensures { result ≡ lit_bit self place }
     {
         if place < 64 {
-            return (self.low >> place) % 2 == 1;
+            (self.low >> place) % 2 == 1
+        } else {
+            (self.high >> (place - 64)) % 2 == 1
         }
-        (self.high >> (place - 64)) % 2 == 1
-    }
-
-    // Whether a place is below the limit or unlit.
-    fn below_or_unlit(self, limit: usize, place: usize) -> bool
-        requires { place < place_count }
-        ensures { result ≡ (ltb place limit || not (lit_bit self place)) }
-    {
-        if place < limit {
-            return true;
-        }
-        !self.is_lit(place)
     }
 
     // Whether no place from the limit on is lit.
     pub fn none_lit_from(self, limit: usize) -> bool
         ensures { result ≡ none_lit_from limit (lit_bit self) }
     {
-        for place in 0..PLACE_COUNT {
-            if !self.below_or_unlit(limit, place) {
-                return false;
-            }
-        }
-        true
+        (limit..PLACE_COUNT).all(|place| !self.is_lit(place))
     }
 
     // How many places are lit.
     pub fn count(self) -> u32
         ensures { result ≡ ones_of self }
     {
-        u64::count_ones(self.low) + u64::count_ones(self.high)
+        self.low.count_ones() + self.high.count_ones()
     }
 
     // The lowest unlit place, or 128 where all are lit.
     fn lowest_unlit(self) -> u32
         ensures { result ≡ unlit_by self }
     {
-        let low = u64::trailing_zeros(!self.low);
+        let low = (!self.low).trailing_zeros();
         if low < 64 {
-            return low;
+            low
+        } else {
+            64 + (!self.high).trailing_zeros()
         }
-        64 + u64::trailing_zeros(!self.high)
     }
 
     // The words with all places of a direction.
@@ -105,10 +93,7 @@ impl Lit {
         ensures { result ≡ unlit_in self direction limit }
     {
         let lowest = self.with_way(direction.other()).lowest_unlit() as usize;
-        if lowest < limit {
-            return lowest;
-        }
-        limit
+        lowest.min(limit)
     }
 
     // The words with one place more, which they do not have yet.
@@ -117,16 +102,43 @@ impl Lit {
         ensures { result ≡ with_place self place }
     {
         if place < 64 {
-            let low = self.low + (1 << place);
-            return Lit {
-                low,
-                high: self.high,
-            };
+            Lit {
+                low: self.low + (1 << place),
+                ..self
+            }
+        } else {
+            Lit {
+                high: self.high + (1 << (place - 64)),
+                ..self
+            }
         }
-        let high = self.high + (1 << (place - 64));
+    }
+}
+
+// The places that one or the other has.
+impl BitOr for Lit {
+    type Output = Lit;
+
+    ghost bitor_gives = { λ a b result. result ≡ either_of a b };
+
+    fn bitor(self, other: Lit) -> Lit {
         Lit {
-            low: self.low,
-            high,
+            low: self.low | other.low,
+            high: self.high | other.high,
+        }
+    }
+}
+
+// The places that both have.
+impl BitAnd for Lit {
+    type Output = Lit;
+
+    ghost bitand_gives = { λ a b result. result ≡ both_of a b };
+
+    fn bitand(self, other: Lit) -> Lit {
+        Lit {
+            low: self.low & other.low,
+            high: self.high & other.high,
         }
     }
 }

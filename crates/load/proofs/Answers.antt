@@ -6,8 +6,6 @@ use mathlib.Core.List.{List, [], ◌++◌}
 use lib.ListN.{length, drop, get_or}
 use borrow.Author.Tests.{lt-ltb, le-ltb}
 use Rattle.refusals.specs.declared.Refusal.TheVariants.{ShortBuffer, BrokenRule}
-use Rattle.refusals.specs.declared.Verdict.{Verdict}
-use Rattle.refusals.specs.declared.Verdict.TheVariants.{Granted as granted, Refused as refused}
 use Rattle.refusals.specs.Answer.{verdict_answer, answer_by}
 use Rattle.ring.specs.Table.{meets_rules}
 use Rattle.ring.specs.declared.RingTable.{RingTable}
@@ -15,6 +13,8 @@ use Rattle.lightpath.specs.declared.Direction.TheVariants.{Clockwise as clockwis
 use Rattle.load.specs.Load.{link_load, loads}
 use Rattle.load.specs.Report.{report_of, report_reasons, buffer_after}
 use Rattle.load.proofs.Filled.{loads_pairs, pairs_at}
+use Rattle.refusals.specs.Refusal.{Verdict}
+use Rattle.std.specs.Prelude.{Ok, Err}
 
 -- the answer v, the buffer after and the answer in numbers are those of the report
 abbrev pub Reports : RingTable → List ℕ → Verdict → List ℕ → Type 0
@@ -22,18 +22,18 @@ Reports t out v after = (v ≡ report_of t (length out)) × ((after ≡ buffer_a
 
 module _ (t : RingTable) (out : List ℕ) where
   -- the table breaks a ring rule
-  pub report_broken : meets_rules t ≡ false → Reports t out (refused BrokenRule) out
+  pub report_broken : meets_rules t ≡ false → Reports t out (Err BrokenRule) out
   unfolding report_of
   report_broken h = rw h (refl, (refl, refl))
 
   -- the buffer is too short
-  pub report_short : meets_rules t ≡ true → length out < 2 * t.nodes → Reports t out (refused ShortBuffer) out
+  pub report_short : meets_rules t ≡ true → length out < 2 * t.nodes → Reports t out (Err ShortBuffer) out
   unfolding report_of
   report_short h l = rw (h, lt-ltb (length out) (2 * t.nodes) l) (refl, (refl, refl))
 
   -- neither: the loads are written
   pub report_full : (after : List ℕ) → meets_rules t ≡ true → 2 * t.nodes ≤ length out
-      → after ≡ loads t.nodes t.channels ++ drop (2 * t.nodes) out → Reports t out granted after
+      → after ≡ loads t.nodes t.channels ++ drop (2 * t.nodes) out → Reports t out (Ok tt) after
   unfolding report_of
   report_full after h l e = rw (h, le-ltb (length out) (2 * t.nodes) l) (refl, (e, refl))
 

@@ -20,10 +20,10 @@ use Rattle.channels.specs.Channels.{Channels}
 use Rattle.ring.specs.Table.{meets_rules}
 use Rattle.ring.specs.declared.RingTable.{RingTable}
 use Rattle.ring.proofs.TableRules.{few_nodes}
-use Rattle.load.specs.Load.{lightpaths_below, lightpaths, link_load, loads}
+use Rattle.load.specs.Load.{lightpaths, link_load, loads}
 use Rattle.load.specs.Walk.{node_room, over_last, Joined, running, Walks, pairs_to}
 use Rattle.load.proofs.NextLink.{load_last, load_onward, load_added, table_joined}
-use Rattle.load.proofs.Counting.{below_length, Reached}
+use Rattle.load.proofs.Counting.{below_length}
 use Rattle.load.proofs.Filled.{pairs_same, loads_pairs}
 
 module _ (N : ℕ) (starts stops : List ℕ) (first : ℕ) (k load : ℕ) (h : load ≡ running starts stops first k) where
@@ -102,35 +102,30 @@ module _ (N : ℕ) (t : Channels) (joined : Joined N t) (few : N ≤ most_nodes)
   pub load_running : (k : ℕ) → k < N → running starts stops first (suc k) ≡ link_load N t d (suc k)
   load_running k i = running_load (suc k) i
 
--- the lightpaths of both directions of a table that meets the rules, all counted
-module _ (t : RingTable) (meets : meets_rules t ≡ true) (w : ℕ) (below : w ≤ most_wavelengths) (above : most_wavelengths ≤ w) where
-  -- in either direction
-  module _ (d : Direction) (starts stops : List ℕ) (first : ℕ) (from : Tallied (start_of d) (lightpaths_below w t.channels d) node_room starts)
-      (to : Tallied (stop_of d) (lightpaths_below w t.channels d) node_room stops) (last : first ≡ over_last d (lightpaths_below w t.channels d)) where
-    all : w ≡ most_wavelengths
-    all = omega arith
-
-    walks : Walks t.nodes starts stops first
-    walks = load_walks t.nodes t.channels (table_joined t meets) (few_nodes t meets) d starts stops first (rw all at from) (rw all at to) (rw all at last)
+-- the lightpaths of a direction of a table that meets the rules, all counted
+module _ (t : RingTable) (meets : meets_rules t ≡ true) where
+  module _ (d : Direction) (starts stops : List ℕ) (first : ℕ) (from : Tallied (start_of d) (lightpaths t.channels d) node_room starts)
+      (to : Tallied (stop_of d) (lightpaths t.channels d) node_room stops) (last : first ≡ over_last d (lightpaths t.channels d)) where
+    -- they can be walked
+    pub counted_walks : Walks t.nodes starts stops first
+    counted_walks = load_walks t.nodes t.channels (table_joined t meets) (few_nodes t meets) d starts stops first from to last
 
     runs : (k : ℕ) → k < t.nodes → running starts stops first (suc k) ≡ link_load t.nodes t.channels d (suc k)
-    runs = load_running t.nodes t.channels (table_joined t meets) (few_nodes t meets) d starts stops first (rw all at from) (rw all at to) (rw all at last)
+    runs = load_running t.nodes t.channels (table_joined t meets) (few_nodes t meets) d starts stops first from to last
 
-  -- they can be walked
-  pub clockwise_walks : (from to : List ℕ) (last : ℕ) → Reached t.channels clockwise w from to last → Walks t.nodes from to last
-  clockwise_walks from to last a = walks clockwise from to last a.sources a.destinations a.over
-
-  pub counterclockwise_walks : (from to : List ℕ) (last : ℕ) → Reached t.channels counterclockwise w from to last → Walks t.nodes to from last
-  counterclockwise_walks from to last a = walks counterclockwise to from last a.destinations a.sources a.over
-
-  -- and give the loads
-  pub walk_written : (from to counter-from counter-to : List ℕ) (last counter-last : ℕ) (after rest : List ℕ)
-      → Reached t.channels clockwise w from to last → Reached t.channels counterclockwise w counter-from counter-to counter-last
-      → after ≡ pairs_to t.nodes (λ k. running from to last k) (λ k. running counter-to counter-from counter-last k) ++ rest
+  -- and those of both directions give the loads
+  pub walk_written : (starts stops joins leaves : List ℕ) (first second : ℕ) (after rest : List ℕ)
+      → Tallied (start_of clockwise) (lightpaths t.channels clockwise) node_room starts
+      → Tallied (stop_of clockwise) (lightpaths t.channels clockwise) node_room stops
+      → first ≡ over_last clockwise (lightpaths t.channels clockwise)
+      → Tallied (start_of counterclockwise) (lightpaths t.channels counterclockwise) node_room joins
+      → Tallied (stop_of counterclockwise) (lightpaths t.channels counterclockwise) node_room leaves
+      → second ≡ over_last counterclockwise (lightpaths t.channels counterclockwise)
+      → after ≡ pairs_to t.nodes (λ k. running starts stops first k) (λ k. running joins leaves second k) ++ rest
       → after ≡ loads t.nodes t.channels ++ rest
-  walk_written from to counter-from counter-to last counter-last after rest a b e =
-      let same = pairs_same (λ k. running from to last k) (λ k. running counter-to counter-from counter-last k) _ _ t.nodes (λ k i. (
-        runs clockwise from to last a.sources a.destinations a.over k i,
-        runs counterclockwise counter-to counter-from counter-last b.destinations b.sources b.over k i,
+  walk_written starts stops joins leaves first second after rest a b l f g m e =
+      let same = pairs_same (λ k. running starts stops first k) (λ k. running joins leaves second k) _ _ t.nodes (λ k i. (
+        runs clockwise starts stops first a b l k i,
+        runs counterclockwise joins leaves second f g m k i,
       )) in
       rw (same ∙ sym (loads_pairs t.nodes t.nodes t.channels)) at e

@@ -1,10 +1,8 @@
 -- 01, "Load and link": the load report of a ring table, into a lent buffer. Assumes nothing. What `report` and `report_valid` promise.
-use Rattle.std.specs.Prelude.{ℕ, ◌*◌, not, List, [], ◌∷◌, ◌++◌, ltb, length, drop}
-use Rattle.refusals.specs.Refusal.{Cause, ◌if◌, judged}
+use Rattle.std.specs.Prelude.{ℕ, ◌*◌, not, List, [], ◌∷◌, ◌++◌, ltb, length, drop, Ok, Err}
+use Rattle.refusals.specs.Refusal.{Cause, ◌if◌, judged, Verdict}
 use Rattle.refusals.specs.Answer.{Reason, ◌when◌}
 use Rattle.refusals.specs.declared.Refusal.TheVariants.{ShortBuffer, BrokenRule}
-use Rattle.refusals.specs.declared.Verdict.{Verdict}
-use Rattle.refusals.specs.declared.Verdict.TheVariants.{Granted as granted, Refused as refused}
 use Rattle.ring.specs.Table.{meets_rules}
 use Rattle.ring.specs.declared.RingTable.{RingTable}
 use Rattle.load.specs.Load.{loads}
@@ -23,8 +21,8 @@ report_reasons t n = (22 when not (meets_rules t)) ∷ (21 when ltb n (2 * t.nod
 
 -- the loads of links 1 to N; bytes after those 2 × N, and on a refusal all, keep their values
 abbrev pub filled_by : RingTable → List ℕ → Verdict → List ℕ
-filled_by t out granted = loads t.nodes t.channels ++ drop (2 * t.nodes) out
-filled_by t out (refused r) = out
+filled_by t out (Ok _) = loads t.nodes t.channels ++ drop (2 * t.nodes) out
+filled_by t out (Err r) = out
 
 -- the buffer after a report
 abbrev pub buffer_after : RingTable → List ℕ → List ℕ

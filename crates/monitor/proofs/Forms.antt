@@ -14,7 +14,6 @@ use Rattle.slots.specs.Slot.{held}
 use Rattle.channels.specs.Channels.{at}
 use Rattle.ports.specs.Ports.{wavelengths}
 use Rattle.refusals.specs.declared.Refusal.{Refusal}
-use Rattle.refusals.specs.declared.Verdict.TheVariants.{Granted as granted, Refused as refused}
 use Rattle.ring.specs.declared.RingTable.{RingTable}
 use Rattle.ring.specs.declared.Answered.{Answered}
 use Rattle.form.specs.Reading.{read_of}
@@ -22,23 +21,24 @@ use Rattle.form.proofs.Laws.{read_meets, accepted_meets}
 use Rattle.link_question.specs.Link.{no_circuit, refusal_of, link_of}
 use Rattle.monitor.specs.Question.{ring_link}
 use Rattle.link_question.proofs.Runs.{one_runs, answer_runs, answer_none}
+use Rattle.std.specs.Prelude.{Ok, Err}
 
 -- the answer, from what was read
 module _ (form : List ℕ) (a : Answered) (e : a ≡ read_of form) where
   -- where a form is accepted, it is the table's
-  pub accepted_link : (l w d r : ℕ) → a.verdict ≡ granted → r ≡ link_of a.table l w d → r ≡ ring_link form l w d
+  pub accepted_link : (l w d r : ℕ) → a.verdict ≡ Ok tt → r ≡ link_of a.table l w d → r ≡ ring_link form l w d
   unfolding ring_link
   accepted_link l w d r g h = rw (← e, g) h
 
   -- that of any other is the form's own refusal
-  pub form_refused : (l w d : ℕ) (x : Refusal) (r : ℕ) → a.verdict ≡ refused x → r ≡ refusal_of x → r ≡ ring_link form l w d
+  pub form_refused : (l w d : ℕ) (x : Refusal) (r : ℕ) → a.verdict ≡ Err x → r ≡ refusal_of x → r ≡ ring_link form l w d
   unfolding ring_link
   form_refused l w d x r g h = rw (← e, g) h
 
 pub ruleset accepting = (accepted_meets, accepted_link, form_refused)
 
 -- which circuit it is, of those at the place of wavelength w in direction d
-module _ (form : List ℕ) (accepted : (read_of form).verdict ≡ granted) (l w : ℕ) (d : Direction) (low : 1 ≤ l)
+module _ (form : List ℕ) (accepted : (read_of form).verdict ≡ Ok tt) (l w : ℕ) (d : Direction) (low : 1 ≤ l)
     (high : l ≤ (read_of form).table.nodes) (below : w < wavelengths (read_of form).table.ports) where
   abbrev t : RingTable
   t = (read_of form).table

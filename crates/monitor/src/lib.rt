@@ -5,8 +5,6 @@
 ghost use Rattle.std.specs.Prelude.{◌≡◌};
 ghost use Rattle.monitor.specs.Question.{ring_link};
 
-use refusals::Verdict;
-
 // The circuit on a link, on a wavelength in a direction, of the ring whose saved form is given; 4,294,967,296 where no circuit runs there;
 // that plus the number of the refusal where the question is refused.
 #[unsafe(no_mangle)]
@@ -15,9 +13,8 @@ pub extern "C" fn ring_link(form: &[u8], link: u64, wavelength: u64, direction: 
 {
     let read = decode::read(form);
     let table = read.table;
-    let verdict = read.verdict;
-    match verdict {
-        Verdict::Granted => link_question::link_of(table, link, wavelength, direction),
-        Verdict::Refused(refusal) => link_question::refused(refusal),
+    match read.verdict {
+        Ok(()) => link_question::link_of(table, link, wavelength, direction),
+        Err(refusal) => link_question::refused(refusal),
     }
 }

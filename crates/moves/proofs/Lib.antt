@@ -1,7 +1,5 @@
--- The laws of the moves: their list, the lent list after them, the stores that write it; those of a tidying's.
+-- The laws of the moves: their list, the lent list after them; those of a tidying, by value and with others after them.
 pub mod Listed
 pub mod Front
-pub mod Stores
 pub mod Recorded
 pub mod Appending
-pub mod Copied

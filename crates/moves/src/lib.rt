@@ -2,10 +2,10 @@
 
 #![tactic(auto)]
 
-ghost use Rattle.std.specs.Prelude.{◌≡◌, [], ◌∷◌, ◌+◌, ◌<◌, ◌≤◌, length};
+ghost use Rattle.std.specs.Prelude.{◌≡◌, [], ◌+◌, ◌≤◌, length};
 ghost use Rattle.limits.specs.Limits.{tidy_records};
 ghost use Rattle.moves.specs.Records.{none, one, two, three, listed};
-ghost use Rattle.moves.specs.Lent.{written};
+ghost use Rattle.moves.specs.Lent.{fronted, written};
 ghost use Rattle.moves.specs.MoveList.{list_of, written_all};
 ghost use Rattle.moves.specs.Appends.{Appends};
 
@@ -13,7 +13,7 @@ use lightpath::Place;
 use limits::{LEAST_RECORDS, TIDY_RECORDS};
 
 // One move of a running circuit: its number, its old place and its new one.
-#[derive(Clone, Copy)]
+#[derive(Clone, Copy, Debug, PartialEq, Eq)]
 pub struct Move {
     pub number: u32,
     pub from: Place,
@@ -24,7 +24,7 @@ pub struct Move {
 pub const MOST_MOVES: usize = 3;
 
 // Up to three moves by value, in their order: the first `count` of the three.
-#[derive(Clone, Copy)]
+#[derive(Clone, Copy, Debug, PartialEq, Eq)]
 pub struct Moves {
     pub count: u8,
     pub first: Move,
@@ -33,7 +33,7 @@ pub struct Moves {
 }
 
 // Up to 128 moves by value, in their order: the first `count` of the list.
-#[derive(Clone, Copy)]
+#[derive(Clone, Copy, Debug, PartialEq, Eq)]
 pub struct MoveList {
     pub count: usize,
     pub list: [Move; TIDY_RECORDS],
@@ -66,8 +66,7 @@ impl Moves {
         Moves {
             count: 1,
             first: m,
-            second: BLANK,
-            third: BLANK,
+            ..Moves::none()
         }
     }
 
@@ -77,9 +76,8 @@ impl Moves {
     {
         Moves {
             count: 2,
-            first: m,
             second: n,
-            third: BLANK,
+            ..Moves::one(m)
         }
     }
 
@@ -89,9 +87,8 @@ impl Moves {
     {
         Moves {
             count: 3,
-            first: m,
-            second: n,
             third: o,
+            ..Moves::two(m, n)
         }
     }
 }
@@ -107,38 +104,32 @@ impl MoveList {
         }
     }
 
-    // These moves, and one more after them.
-    fn push(self, m: Move) -> Self
-        requires { self.count < tidy_records }
-        ensures { Appends self (m ∷ []) result }
-    {
-        let count = self.count;
-        let mut list = self.list;
-        list[count] = m;
-        MoveList {
-            count: count + 1,
-            list,
-        }
-    }
-
     // These moves, and up to three more after them.
     pub fn with(self, moves: Moves) -> Self
         requires { self.count + length (listed moves) ≤ tidy_records }
         ensures { Appends self (listed moves) result }
     {
-        if moves.count < 1 {
-            return self;
-        }
-        let one = self.push(moves.first);
-        if moves.count < 2 {
-            return one;
-        }
-        let two = one.push(moves.second);
-        if moves.count < 3 {
-            return two;
-        }
-        two.push(moves.third)
+        let more = usize::from(moves.count).min(MOST_MOVES);
+        let end = self.count + more;
+        let mut all = self;
+        all.list[self.count..end].copy_from_slice(
+            &[moves.first, moves.second, moves.third][..more],
+        );
+        all.count = end;
+        all
     }
+}
+
+// Records are written to the first ones of a list, in their order, and the others keep their values. A list of fewer than `least` is left
+// as it is.
+fn write_front(list: &mut [Move], least: usize, records: &[Move])
+    requires { length records.now ≤ least }
+    ensures { list.new ≡ fronted least records.now list.old }
+{
+    if list.len() < least {
+        return;
+    }
+    list[..records.len()].copy_from_slice(records);
 }
 
 // The moves are written to the first records of the lent list, and the others keep their values. A list of fewer than three records is
@@ -146,18 +137,12 @@ impl MoveList {
 pub fn write_moves(list: &mut [Move], moves: Moves)
     ensures { list.new ≡ written list.old moves }
 {
-    if list.len() < LEAST_RECORDS {
-        return;
-    }
-    if 0 < moves.count {
-        list[0] = moves.first;
-    }
-    if 1 < moves.count {
-        list[1] = moves.second;
-    }
-    if 2 < moves.count {
-        list[2] = moves.third;
-    }
+    let count = usize::from(moves.count).min(MOST_MOVES);
+    write_front(
+        list,
+        LEAST_RECORDS,
+        &[moves.first, moves.second, moves.third][..count],
+    );
 }
 
 // Up to 128 moves are written to the first records of the lent list, in their order, and the others keep their values. A list of fewer
@@ -165,16 +150,6 @@ pub fn write_moves(list: &mut [Move], moves: Moves)
 pub fn write_list(list: &mut [Move], moves: MoveList)
     ensures { list.new ≡ written_all list.old moves }
 {
-    let mut end = moves.count;
-    if TIDY_RECORDS < end {
-        end = TIDY_RECORDS;
-    }
-    if list.len() < end {
-        return;
-    }
-    let mut i = 0;
-    while i < end {
-        list[i] = moves.list[i];
-        i += 1;
-    }
+    let end = moves.count.min(TIDY_RECORDS);
+    write_front(list, end, &moves.list[..end]);
 }

@@ -42,44 +42,48 @@ module _ (t : RingTable) (meets : meets_rules t ≡ true) where
   unfolding filled piece nodes_text
   nodes_put l l1 l2 at i j p q = record { put = put_put p.put q.put; short = omega (arith, p.short, q.short) }
 
--- the nodes after node i are still to be printed: whatever prints them at this position has printed all
+-- the nodes from node i on are still to be printed: whatever prints them at this position has printed all
 pub record Naming (t : RingTable) (l0 : List ℕ) (start : ℕ) (l : List ℕ) (next i : ℕ) : Type 0 where
-  pub rest : (l' : List ℕ) (e : ℕ) → Put l next (node_lines t.ports t.channels (t.nodes - i) (i + 1)) l' e → Put l0 start (node_lines t.ports t.channels t.nodes 1) l' e
-  pub short : next ≤ start + node_room * i
-  pub within : i ≤ t.nodes
+  pub rest : (l' : List ℕ) (e : ℕ) → Put l next (node_lines t.ports t.channels (t.nodes + 1 - i) i) l' e → Put l0 start (node_lines t.ports t.channels t.nodes 1) l' e
+  pub short : next + node_room ≤ start + node_room * i
   pub few : t.nodes ≤ most_nodes
   pub space : start + node_lines_room ≤ length l0
   pub long : length l ≡ length l0
 
-pub name_none : (t : RingTable) (l : List ℕ) (start : ℕ) → start + node_lines_room ≤ length l → meets_rules t ≡ true → Naming t l start l start 0
+pub name_none : (t : RingTable) (l : List ℕ) (start : ℕ) → start + node_lines_room ≤ length l → meets_rules t ≡ true → Naming t l start l start 1
 name_none t l start h meets =
-    let z : t.nodes - 0 ≡ t.nodes = omega arith in
-    record { rest = λ l' e q. rw z at q; short = omega arith; within = omega arith; few = few_nodes t meets; space = h; long = refl }
+    let z : t.nodes + 1 - 1 ≡ t.nodes = omega arith in
+    record { rest = λ l' e q. rw z at q; short = omega arith; few = few_nodes t meets; space = h; long = refl }
 
-module _ (t : RingTable) (l0 : List ℕ) (start : ℕ) (l : List ℕ) (next i : ℕ) (q : Naming t l0 start l next i) where
-  pub name_all : t.nodes ≤ i → Printed node_lines_room l0 start (node_lines t.ports t.channels t.nodes 1) l next
-  name_all h =
-      let e : t.nodes - i ≡ 0 = omega arith in
-      record { put = q.rest l next (rw e put_none); short = omega (arith, q.short, q.within, q.few) }
+-- where there is no node at all
+pub name_empty : (t : RingTable) (l0 : List ℕ) (start : ℕ) (l : List ℕ) (next : ℕ) → Naming t l0 start l next 1 → t.nodes < 1 → Printed node_lines_room l0 start (node_lines t.ports t.channels t.nodes 1) l next
+name_empty t l0 start l next q h =
+    let e : t.nodes + 1 - 1 ≡ 0 = omega arith in
+    record { put = q.rest l next (rw e put_none); short = omega (arith, q.short) }
 
-  module _ (h : i < t.nodes) where
-    pub name_room_lem : next + node_room ≤ length l
-    name_room_lem = omega (arith, q.short, q.few, q.space, q.long)
+module _ (t : RingTable) (l0 : List ℕ) (start : ℕ) (l : List ℕ) (next i : ℕ) (q : Naming t l0 start l next i) (h : i ≤ t.nodes) where
+  pub name_room_lem : next + node_room ≤ length l
+  name_room_lem = omega (arith, q.short, q.few, q.space, q.long)
 
-    apart : node_lines t.ports t.channels (t.nodes - i) (i + 1) ≡ node_line t.ports t.channels (i + 1) ++ node_lines t.ports t.channels (t.nodes - (i + 1)) (i + 1 + 1)
-    apart = let e : t.nodes - i ≡ suc (t.nodes - (i + 1)) = omega arith in rw (e, add-one (i + 1))
+  apart : node_lines t.ports t.channels (t.nodes + 1 - i) i ≡ node_line t.ports t.channels i ++ node_lines t.ports t.channels (t.nodes + 1 - (i + 1)) (i + 1)
+  apart = let e : t.nodes + 1 - i ≡ suc (t.nodes + 1 - (i + 1)) = omega arith in rw (e, add-one i)
 
-    pub name_next : (l1 : List ℕ) (j : ℕ) → Printed node_room l next (node_line t.ports t.channels (i + 1)) l1 j → Naming t l0 start l1 j (i + 1)
-    name_next l1 j p =
+  module _ (l1 : List ℕ) (j : ℕ) (p : Printed node_room l next (node_line t.ports t.channels i) l1 j) where
+    pub name_next : Naming t l0 start l1 j (i + 1)
+    name_next =
         record {
           rest = λ l' e r. q.rest l' e (rw apart (put_put p.put r));
           short = omega (arith, q.short, p.short);
-          within = omega arith;
           few = q.few;
           space = q.space;
           long = omega (arith, put_length p.put, q.long);
         }
 
-pub ruleset naming = (name_none, name_all, name_room_lem, name_next)
+    pub name_last : t.nodes ≤ i → Printed node_lines_room l0 start (node_lines t.ports t.channels t.nodes 1) l1 j
+    name_last k =
+        let e : t.nodes + 1 - (i + 1) ≡ 0 = omega arith in
+        record { put = name_next.rest l1 j (rw e put_none); short = omega (arith, name_next.short, q.few) }
+
+pub ruleset naming = (name_none, name_empty, name_room_lem, name_next, name_last)
 
 pub ruleset named = (used_small, node_line_lem)

@@ -31,6 +31,7 @@ use Rattle.buffer.specs.Put.{Printed}
 use Rattle.text.specs.Bytes.{bytes}
 use Rattle.print.specs.Answers.{piece}
 use Rattle.print.specs.Filled.{filled, filled_room}
+use Rattle.row_lines.specs.declared.Listed.TheVariants.{To}
 use Rattle.row_lines.specs.Lines.{row_text, from_room}
 use Rattle.node_lines.specs.Lines.{to_text}
 use Rattle.node_lines.specs.Arrivals.{arrivals_in}
@@ -88,7 +89,7 @@ module _ (t : RingTable) (meets : meets_rules t ≡ true) (node : ℕ) (a : Chan
             receives_most t.nodes t.ports t.channels (table_rules t meets) node (rw is at there),
           )
 
-      pub to_row : (l l' : List ℕ) (at k : ℕ) → Printed from_room l at (row_text true node (entries_in (take count keys) (take count rests))) l' k
+      pub to_row : (l l' : List ℕ) (at k : ℕ) → Printed from_room l at (row_text To node (entries_in (take count keys) (take count rests))) l' k
           → Printed from_room l at (to_text t.nodes t.channels node) l' k
       unfolding to_text
       to_row l l' at k p =

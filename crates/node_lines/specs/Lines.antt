@@ -1,6 +1,6 @@
 -- What is printed in answer to `to NODE`, the circuits to a node, and to `nodes`, the ports of each node and how many are in use. Assumes
 -- nothing. What `put_to` and `put_nodes` promise.
-use Rattle.std.specs.Prelude.{ℕ, zero, suc, ◌+◌, ◌*◌, true, List, [], ◌∷◌, ◌++◌, eqb}
+use Rattle.std.specs.Prelude.{ℕ, zero, suc, ◌+◌, ◌*◌, List, [], ◌∷◌, ◌++◌, eqb}
 use Rattle.basis.specs.Choice.{pick}
 use Rattle.limits.specs.Limits.{most_nodes}
 use Rattle.lightpath.specs.Circuit.{on_ring}
@@ -15,6 +15,7 @@ use Rattle.roster.specs.Roster.{standings_from, filed_all}
 use Rattle.text.specs.Bytes.{bytes}
 use Rattle.print.specs.Answers.{line_of}
 use Rattle.print.specs.Filled.{filled_room}
+use Rattle.row_lines.specs.declared.Listed.TheVariants.{To}
 use Rattle.row_lines.specs.Lines.{row_text}
 
 -- a circuit with its ends exchanged
@@ -33,7 +34,7 @@ arrived node t = filed_all (arrivals node (standings_from 0 (slots t))) []
 
 -- on a ring of N nodes with the places t: the circuits to the node, by rising number; "a node off the ring: `to refused 10`"
 unfoldable pub to_text : ℕ → Channels → ℕ → List ℕ
-to_text N t node = pick (on_ring N node) (row_text true node (arrived node t)) (line_of (("to refused ", number_of OffRing) ∷ []))
+to_text N t node = pick (on_ring N node) (row_text To node (arrived node t)) (line_of (("to refused ", number_of OffRing) ∷ []))
 
 -- `node I ports K sends S receives R`, of the port counts ks and the places t
 unfoldable pub node_line : List ℕ → Channels → ℕ → List ℕ

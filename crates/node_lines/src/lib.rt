@@ -14,6 +14,7 @@ use lightpath::Circuit;
 use limits::{MOST_CIRCUITS, PLACE_COUNT};
 use refusals::Refusal;
 use ring::RingTable;
+use row_lines::Listed;
 use row_numbers::End;
 use slots::Slot;
 
@@ -35,9 +36,10 @@ fn arrival(circuit: Circuit, node: u8) -> Slot
     ensures { result ≡ arrival_of node circuit }
 {
     if circuit.destination == node {
-        return Slot::Alone(exchange(circuit));
+        Slot::Alone(exchange(circuit))
+    } else {
+        Slot::Unlit
     }
-    Slot::Unlit
 }
 
 // The circuits of a place to a node, with their ends exchanged.
@@ -63,16 +65,9 @@ fn arrivals_at(slot: Slot, node: u8) -> Slot
 fn arrivals(channels: [Channel; PLACE_COUNT], node: u8) -> [Channel; PLACE_COUNT]
     ensures { result ≡ arrivals_in node channels }
 {
-    let mut left = channels;
-    let mut p: usize = 0;
-    while p < PLACE_COUNT {
-        let channel = channels[p];
-        let slot = channel.slot;
-        let slot = arrivals_at(slot, node);
-        left[p] = Channel { slot };
-        p += 1;
-    }
-    left
+    channels.map(|channel| Channel {
+        slot: arrivals_at(channel.slot, node),
+    })
 }
 
 // Answers `to NODE`: `to NODE circuits COUNT` and a line for each by rising number, or `to refused R` where the node is off the ring.
@@ -80,15 +75,13 @@ pub fn put_to(out: &mut [u8], at: usize, table: RingTable, node: u8) -> usize
     requires { (at + from_room ≤ length out.old) × (meets_rules table ≡ true) }
     ensures { Printed from_room out.old at (to_text table.nodes table.channels node) out.new result }
 {
-    let nodes = table.nodes;
-    let channels = table.channels;
-    if !lightpath::on_ring(nodes, node) {
+    if !lightpath::on_ring(table.nodes, node) {
         return print::put_refusal(out, at, b"to refused #\n", Refusal::OffRing);
     }
     let mut keys = [0u64; MOST_CIRCUITS];
     let mut rests = [0u64; MOST_CIRCUITS];
-    let count = roster::file_all(&mut keys, &mut rests, arrivals(channels, node));
-    row_lines::put_row(out, at, true, node, &keys[..count], &rests[..count])
+    let count = roster::file_all(&mut keys, &mut rests, arrivals(table.channels, node));
+    row_lines::put_row(out, at, Listed::To, node, &keys[..count], &rests[..count])
 }
 
 // `node I ports K sends S receives R`.
@@ -96,11 +89,9 @@ fn put_node(out: &mut [u8], at: usize, table: RingTable, node: u8) -> usize
     requires { (at + node_room ≤ length out.old) × (meets_rules table ≡ true) }
     ensures { Printed node_room out.old at (node_line table.ports table.channels node) out.new result }
 {
-    let ports = table.ports;
-    let channels = table.channels;
-    let all = ports::ports_of(ports, node);
-    let sends = row_numbers::used(channels, End::Source, node);
-    let receives = row_numbers::used(channels, End::Destination, node);
+    let all = ports::ports_of(table.ports, node);
+    let sends = row_numbers::used(table.channels, End::Source, node);
+    let receives = row_numbers::used(table.channels, End::Destination, node);
     print::put_filled(
         out,
         at,
@@ -117,12 +108,9 @@ fn put_node_lines(out: &mut [u8], at: usize, table: RingTable) -> usize
     requires { (at + node_lines_room ≤ length out.old) × (meets_rules table ≡ true) }
     ensures { Printed node_lines_room out.old at (node_lines table.ports table.channels table.nodes 1) out.new result }
 {
-    let nodes = table.nodes;
     let mut next = at;
-    let mut i: u8 = 0;
-    while i < nodes {
-        i += 1;
-        next = put_node(out, next, table, i);
+    for node in 1..=table.nodes {
+        next = put_node(out, next, table, node);
     }
     next
 }

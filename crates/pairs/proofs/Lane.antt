@@ -1,15 +1,17 @@
 -- x: how far the search among the candidates is; and that the first that stands in a direction is the nonsharing circuit at its lowest
 -- place. Assumes nothing.
 use Prim.Native.Nat.{ℕ, suc, ◌+◌, ◌≤◌, ◌<◌}
-use mathlib.Core.Path.{◌≡◌, refl, sym, ◌∙◌}
+use mathlib.Core.Path.{◌≡◌, refl, ◌∙◌}
 use mathlib.Core.Bool.{Bool, true, false, ◌&&◌}
 use mathlib.Core.List.{List, [], ◌∷◌, ◌++◌}
 use native.Mathlib.Nat.{add-zero, zero-add, add-suc, suc-add}
 use native.Mathlib.Omega.{arith}
-use lib.ListN.{length, get_or, take, drop, get_or-eq_default}
+use Rattle.std.specs.List.{find}
+use Rattle.std.specs.Prelude.{Option}
+use Rattle.std.specs.Option.{unwrap_or}
+use lib.ListN.{length, get_or, take}
 use borrow.Author.Tests.{lt-ltb}
-use Rattle.basis.specs.Search.{first_below, pairs_of}
-use Rattle.basis.proofs.Arrays.{array_length}
+use Rattle.basis.specs.Search.{first_below, first_place}
 use Rattle.limits.specs.Limits.{place_count}
 use Rattle.lightpath.specs.Place.{direction_of, same_direction}
 use Rattle.lightpath.specs.Circuit.{share_direction}
@@ -24,41 +26,18 @@ use Rattle.channels.specs.declared.Standing.{Standing}
 use Rattle.channels.proofs.Nonsharing.{below_length, below_at}
 use Rattle.circuit_lists.specs.Gathering.{Gathers}
 use Rattle.circuit_lists.specs.declared.Candidates.{Candidates}
-use Rattle.steps.specs.Steps.{nowhere, newcomer, candidates, passed_in, found_pair, lowest_alone}
+use Rattle.steps.specs.Steps.{newcomer, candidates, found_pair, lowest_alone}
 use Rattle.pairs.specs.Pairs.{Pair, blank_standing, candidate_list, first_pair, stands_in, first_in, found_of, Searchable}
-use Rattle.pairs.proofs.Seek.{Left, left_start, left_miss, left_hit, left_at, left_end, next, past, pair_of_lem}
+use Rattle.pairs.proofs.Seek.{pair_of_lem}
 
--- an old candidate stands in the direction of its place
-pub stands_way : (d w : Direction) (s : Standing) (r : Bool) → s.place < nowhere → w ≡ direction_of s.place → r ≡ same_direction w d → r ≡ stands_in d s
-stands_way d w s r l e h = rw (lt-ltb s.place nowhere l, ← e) h
-
--- the first i of n candidates do not stand in direction d
-pub record Passing (d : Direction) (list : List Standing) (n i : ℕ) : Type 0 where
-  pub room : n ≤ length list
-  pub left : Left (stands_in d) (take n list) i (drop i (take n list))
-
-module _ {d : Direction} {list : List Standing} {n : ℕ} where
-  -- the search starts at the first
-  pub lane_start : (room : ℕ) → length list ≡ room → n ≤ room → Passing d list n 0
-  lane_start room e r = record { room = omega arith; left = left_start }
-
-  -- one that does not stand in the direction is passed
-  pub lane_miss : {i : ℕ} {r : Bool} → Passing d list n i → i < n → r ≡ stands_in d (get_or list i blank_standing) → r ≡ false → Passing d list n (i + 1)
-  lane_miss {i} p h e t = record { room = p.room; left = left_miss (rw (next list n i p.room h) at p.left) (sym e ∙ t) }
-
-  -- one that does is the first
-  pub lane_hit : {i : ℕ} {r : Bool} → Passing d list n i → i < n → r ≡ stands_in d (get_or list i blank_standing) → r ≡ true
-      → get_or list i blank_standing ≡ first_in d (take n list)
-  lane_hit {i} p h e t =
-      let found = rw (next list n i p.room h) at p.left in
-      rw (left_hit found (sym e ∙ t), left_at blank_standing found)
-
-  -- past the last there is none
-  pub lane_end : {i : ℕ} → Passing d list n i → n ≤ i → blank_standing ≡ first_in d (take n list)
-  lane_end {i} p h = sym (get_or-eq_default (take n list) blank_standing (left_end (rw (past list n i p.room h) at p.left)))
-
--- for `search (rules, lane)`
-pub ruleset lane = (array_length, lane_start, lane_miss, lane_hit, lane_end)
+-- the first that passes a test, or another, is that at its position
+first_at : {A : Type 0} (f : A → Bool) (d : A) (xs : List A) → unwrap_or (find f xs) d ≡ get_or xs (first_place f xs) d
+first_at f d [] = refl
+first_at f d (x ∷ xs) = go (f x) refl (first_at f d xs)
+  where
+    go : (o : Bool) → f x ≡ o → unwrap_or (find f xs) d ≡ get_or xs (first_place f xs) d → unwrap_or (find f (x ∷ xs)) d ≡ get_or (x ∷ xs) (first_place f (x ∷ xs)) d
+    go true e h = rw e
+    go false e h = rw e h
 
 -- the circuit of content k, of contents whose places count from p
 abbrev there : ℕ → List Slot → ℕ → Standing
@@ -118,17 +97,10 @@ x_found m t c d within low h =
 
 -- what the search found, from the candidates that it gathered
 module _ (N m : ℕ) (t : Channels) (c : Circuit) (can : Searchable N m t c) (all : Candidates) (are : Gathers 129 all.list all.count (candidates m t c)) where
-  -- they have an adjacent pair
-  pub found_wanted : passed_in (candidate_list all) < length (pairs_of (candidate_list all))
-  found_wanted = rw are.are can.pair
-
   -- the first, and the first that stands in the direction in which it can share
-  pub found_all : (p : Pair) (d : Direction) (x : Standing) → length t ≡ place_count → p ≡ first_pair (candidate_list all)
-      → d ≡ share_direction N p.first.circuit p.second.circuit → x ≡ first_in d (candidate_list all) → record { pair = p; x = x } ≡ found_of N m t c
-  found_all p d x long e f h =
+  pub found_all : (p : Pair) (d : Direction) (o : Option Standing) (x : Standing) → length t ≡ place_count → p ≡ first_pair (candidate_list all)
+      → d ≡ share_direction N p.first.circuit p.second.circuit → o ≡ find (stands_in d) (candidate_list all) → x ≡ unwrap_or o blank_standing → record { pair = p; x = x } ≡ found_of N m t c
+  found_all p d o x long e f g h =
       let pair = pair_of_lem m t c (candidate_list all) p are.are can.pair e in
       let way : d ≡ share_direction N (found_pair m t c).0.circuit (found_pair m t c).1.circuit = rw pair at f in
-      rw (pair, h, are.are, x_found m t c d (omega (arith, long, can.low)) can.low (can.lane d), way)
-
--- for `search (rules, found)`
-pub ruleset found = (array_length, found_wanted, found_all)
+      rw (pair, h, g, first_at (stands_in d) blank_standing (candidate_list all), are.are, x_found m t c d (omega (arith, long, can.low)) can.low (can.lane d), way)

@@ -2,12 +2,12 @@
 
 #![tactic(auto)]
 
-ghost use Rattle.std.specs.Prelude.{◌≡◌, ◌+◌, ◌<◌, ◌≤◌, length};
+ghost use Rattle.std.specs.Prelude.{◌≡◌, ◌+◌, ◌<◌, ◌≤◌, length, find};
 ghost use Rattle.basis.specs.Search.{pairs_of};
 ghost use Rattle.limits.specs.Limits.{place_count};
 ghost use Rattle.circuit_lists.specs.Gathering.{Gathers};
 ghost use Rattle.steps.specs.Steps.{candidates, passed_in};
-ghost use Rattle.pairs.specs.Pairs.{candidate_list, first_pair, stands_in, first_in, found_of, Searchable};
+ghost use Rattle.pairs.specs.Pairs.{first_pair, stands_in, found_of, Searchable};
 
 use channels::{Channel, Standing};
 use circuit_lists::{Candidates, nonsharing_below};
@@ -29,38 +29,40 @@ pub struct Found {
     pub x: Standing,
 }
 
+// A candidate with all fields zero.
+const BLANK_STANDING: Standing = Standing {
+    place: 0,
+    circuit: BLANK_CIRCUIT,
+};
+
 // The nonsharing circuits by rising place, the new one last. It has no place yet and is listed at 128, nowhere.
 fn candidates_for(limit: usize, channels: [Channel; PLACE_COUNT], circuit: Circuit) -> Candidates
     requires { limit ≤ place_count }
     ensures { Gathers (place_count + 1) result.list result.count (candidates limit channels circuit) }
 {
     let mut all = nonsharing_below(channels, limit);
-    let last = all.count;
-    all.list[last] = Standing {
+    all.list[all.count] = Standing {
         place: PLACE_COUNT,
         circuit,
     };
-    all.count = last + 1;
+    all.count += 1;
     all
 }
 
 // The first adjacent pair of the candidates, where there is one: pairs by first member, then second.
-fn first_pair(all: Candidates) -> Pair
-    requires { (all.count ≤ place_count + 1) × (passed_in (candidate_list all) < length (pairs_of (candidate_list all))) }
-    ensures { result ≡ first_pair (candidate_list all) }
+fn first_pair(candidates: &[Standing]) -> Pair
+    requires { (length candidates.now ≤ place_count + 1) × (passed_in candidates.now < length (pairs_of candidates.now)) }
+    ensures { result ≡ first_pair candidates.now }
 {
-    let count = all.count;
-    let mut first = all.list[0];
-    let mut second = all.list[0];
+    let mut first = candidates[0];
+    let mut second = candidates[0];
     let mut looks: u16 = 0;
-    'pairs: for i in 0..count {
-        let a = all.list[i];
-        for j in i + 1..count {
-            let b = all.list[j];
+    'pairs: for (i, a) in candidates.iter().enumerate() {
+        for b in &candidates[i + 1..] {
             looks += 1;
             if a.circuit.adjacent(b.circuit) {
-                first = a;
-                second = b;
+                first = *a;
+                second = *b;
                 break 'pairs;
             }
         }
@@ -76,29 +78,17 @@ fn first_pair(all: Candidates) -> Pair
 fn stands_in(standing: Standing, direction: Direction) -> bool
     ensures { result ≡ stands_in direction standing }
 {
-    if PLACE_COUNT <= standing.place {
-        return false;
-    }
-    let place = standing.place as u8;
-    Place(place).direction().same(direction)
+    standing.place < PLACE_COUNT && Place(standing.place as u8).direction() == direction
 }
 
-// The first of the candidates that stands in a direction, or a blank one.
-fn first_in(all: Candidates, direction: Direction) -> Standing
-    requires { all.count ≤ place_count + 1 }
-    ensures { result ≡ first_in direction (candidate_list all) }
+// The first of the candidates that stands in a direction.
+fn first_in(candidates: &[Standing], direction: Direction) -> Option<Standing>
+    ensures { result ≡ find (stands_in direction) candidates.now }
 {
-    let count = all.count;
-    for i in 0..count {
-        let standing = all.list[i];
-        if stands_in(standing, direction) {
-            return standing;
-        }
-    }
-    Standing {
-        place: 0,
-        circuit: BLANK_CIRCUIT,
-    }
+    candidates
+        .iter()
+        .copied()
+        .find(|standing| stands_in(*standing, direction))
 }
 
 // What step 3 finds for a new circuit.
@@ -112,10 +102,14 @@ pub fn found_for(
     ensures { result ≡ found_of nodes limit channels circuit }
 {
     let all = candidates_for(limit, channels, circuit);
-    let pair = first_pair(all);
-    let a = pair.first;
-    let b = pair.second;
-    let direction = a.circuit.share_direction(b.circuit, nodes);
-    let x = first_in(all, direction);
-    Found { pair, x }
+    let candidates = &all.list[..all.count];
+    let pair = first_pair(candidates);
+    let direction = pair
+        .first
+        .circuit
+        .share_direction(pair.second.circuit, nodes);
+    Found {
+        pair,
+        x: first_in(candidates, direction).unwrap_or(BLANK_STANDING),
+    }
 }

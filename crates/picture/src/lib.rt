@@ -5,12 +5,12 @@
 
 mod row;
 
-ghost use Rattle.std.specs.Prelude.{◌≡◌, true, ◌+◌, ◌≤◌, length};
+ghost use Rattle.std.specs.Prelude.{◌≡◌, true, ◌+◌, ◌*◌, ◌≤◌, length};
 ghost use Rattle.limits.specs.Limits.{place_count};
 ghost use Rattle.ring.specs.Table.{meets_rules};
 ghost use Rattle.buffer.specs.Appended.{Appended};
 ghost use Rattle.text.specs.Decimal.{most_digits};
-ghost use Rattle.picture.specs.Room.{title_room, rows_room, legend_room, picture_room};
+ghost use Rattle.picture.specs.Room.{title_room, row_room, rows_room, legend_room, picture_room};
 ghost use Rattle.picture.specs.Drawn.{Drawn};
 
 use columns::COLUMNS_ROOM;
@@ -44,28 +44,15 @@ fn highest_at(slot: Slot) -> u32 {
     }
 }
 
-// The higher of a number and those at a place.
-fn higher(number: u32, slot: Slot) -> u32 {
-    let other = highest_at(slot);
-    if number < other {
-        return other;
-    }
-    number
-}
-
 // The width of a column: the digits of the highest circuit number, and at least two, for links, loads and ports.
 fn column_width(table: RingTable) -> usize
     ensures { result ≤ most_digits }
 {
-    let channels = table.channels;
-    let mut highest: u32 = 10;
-    let mut place: usize = 0;
-    while place < PLACE_COUNT {
-        let channel = channels[place];
-        let slot = channel.slot;
-        highest = higher(highest, slot);
-        place += 1;
-    }
+    let highest = table
+        .channels
+        .iter()
+        .map(|channel| highest_at(channel.slot))
+        .fold(10, |highest, number| number.max(highest));
     columns::digits(highest)
 }
 
@@ -74,8 +61,7 @@ fn put_title(out: &mut [u8], at: usize, table: RingTable) -> usize
     requires { at + title_room ≤ length out.old }
     ensures { Appended title_room out.old at out.new result }
 {
-    let channels = table.channels;
-    let listed = circuit_lists::circuits_of(channels);
+    let listed = circuit_lists::circuits_of(table.channels);
     print::put_filled(
         out,
         at,
@@ -87,36 +73,40 @@ fn put_title(out: &mut [u8], at: usize, table: RingTable) -> usize
     )
 }
 
-// The rows of the links: where they begin and end, and what runs on them at each place.
-fn link_row(i: usize) -> Row {
-    if i == 0 {
-        return Row::From;
-    }
-    if i == 1 {
-        return Row::To;
-    }
-    Row::Place(i - 2)
-}
+// The rows above those of the places: where the links begin and end.
+const UPPER: [Row; 2] = [Row::From, Row::To];
 
 // The rows below them: the loads and the ports.
-fn lower_row(i: usize) -> Row {
-    match i {
-        0 => Row::Clockwise,
-        1 => Row::Counterclockwise,
-        2 => Row::Nodes,
-        3 => Row::Senders,
-        _ => Row::Receivers,
+const LOWER: [Row; 5] = [
+    Row::Clockwise,
+    Row::Counterclockwise,
+    Row::Nodes,
+    Row::Senders,
+    Row::Receivers,
+];
+
+// Some rows.
+fn put_some(out: &mut [u8], at: usize, table: RingTable, rows: &[Row], width: usize) -> usize
+    requires { Drawn table width × (at + row_room * length rows.now ≤ length out.old) }
+    ensures { Appended (row_room * length rows.now) out.old at out.new result }
+{
+    let mut next = at;
+    for row in rows {
+        next = row::put_row(out, next, table, *row, width);
     }
+    next
 }
 
-// The row at a position of the picture of a ring where so many places may be lit.
-fn row_at(limit: usize, i: usize) -> Row
-    requires { limit ≤ place_count }
+// The rows of the places that may be lit.
+fn put_places(out: &mut [u8], at: usize, table: RingTable, width: usize) -> usize
+    requires { Drawn table width × (at + row_room * place_count ≤ length out.old) }
+    ensures { Appended (row_room * place_count) out.old at out.new result }
 {
-    if i < limit + 2 {
-        return link_row(i);
+    let mut next = at;
+    for place in 0..ports::place_limit(table.ports) {
+        next = row::put_row(out, next, table, Row::Place(place), width);
     }
-    lower_row(i - limit - 2)
+    next
 }
 
 // The rows.
@@ -124,16 +114,9 @@ fn put_rows(out: &mut [u8], at: usize, table: RingTable, width: usize) -> usize
     requires { Drawn table width × (at + rows_room ≤ length out.old) }
     ensures { Appended rows_room out.old at out.new result }
 {
-    let ports = table.ports;
-    let limit = ports::place_limit(ports);
-    let mut next = at;
-    let mut i: usize = 0;
-    while i < limit + NAMED_ROWS {
-        let row = row_at(limit, i);
-        next = row::put_row(out, next, table, row, width);
-        i += 1;
-    }
-    next
+    let next = put_some(out, at, table, &UPPER, width);
+    let next = put_places(out, next, table, width);
+    put_some(out, next, table, &LOWER, width)
 }
 
 // What the signs mean.

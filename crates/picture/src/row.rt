@@ -35,18 +35,12 @@ fn last_digit(n: usize) -> u8 {
 fn digit(n: usize, unit: usize) -> u8
     requires { 0 < unit }
 {
-    if n < unit {
-        return b' ';
-    }
-    last_digit(n / unit)
+    if n < unit { b' ' } else { last_digit(n / unit) }
 }
 
 // The way round of a place.
 fn way(place: usize) -> u8 {
-    if place % 2 == 0 {
-        return b'>';
-    }
-    b'<'
+    if place % 2 == 0 { b'>' } else { b'<' }
 }
 
 // Whether two circuits share a place, one is alone there, or none is.
@@ -77,11 +71,10 @@ fn place_name(place: usize, slot: Slot) -> [u8; NAME_ROOM] {
 
 // The name of a row.
 fn name_of(table: RingTable, row: Row) -> [u8; NAME_ROOM] {
-    let channels = table.channels;
     match row {
         Row::From => FROM,
         Row::To => TO,
-        Row::Place(place) => place_name(place, channels::slot_at(channels, place)),
+        Row::Place(place) => place_name(place, channels::slot_at(table.channels, place)),
         Row::Clockwise => CLOCKWISE,
         Row::Counterclockwise => COUNTERCLOCKWISE,
         Row::Nodes => NODES,
@@ -92,9 +85,8 @@ fn name_of(table: RingTable, row: Row) -> [u8; NAME_ROOM] {
 
 // Whether a row is that of an unlit place.
 fn is_unlit(table: RingTable, row: Row) -> bool {
-    let channels = table.channels;
     match row {
-        Row::Place(place) => channels::slot_at(channels, place).is_unlit(),
+        Row::Place(place) => channels::slot_at(table.channels, place).is_unlit(),
         _ => false,
     }
 }

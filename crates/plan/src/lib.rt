@@ -17,7 +17,7 @@ use channels::{Changes, Channel};
 use lightpath::{Circuit, Place};
 use limits::PLACE_COUNT;
 use moves::Moves;
-pub use plan::{joined, lighted, moves_to};
+pub use plan::{joined, lighted, moves_to, shared};
 pub use rearrange::{stands_right, step_three};
 use survey::Survey;
 

@@ -2,7 +2,9 @@
 
 ghost use Rattle.std.specs.Prelude.{◌≡◌, ◌<◌};
 ghost use Rattle.limits.specs.Limits.{place_count};
-ghost use Rattle.moves.specs.Records.{three};
+ghost use Rattle.slots.specs.Slot.{together};
+ghost use Rattle.slots.specs.declared.Slot.TheVariants.{Alone as alone};
+ghost use Rattle.channels.specs.Change.{◌gets◌};
 ghost use Rattle.steps.specs.Plan.{moves_to, joining, lighting, one_move, two_moves, three_moves};
 ghost use Rattle.plan.specs.Planned.{Plans};
 
@@ -17,11 +19,30 @@ pub fn moves_to(standing: Standing, place: usize) -> Move
     requires { (standing.place < place_count) × (place < place_count) }
     ensures { result ≡ moves_to standing place }
 {
-    let circuit = standing.circuit;
     Move {
-        number: circuit.number,
+        number: standing.circuit.number,
         from: Place(standing.place as u8),
         to: Place(place as u8),
+    }
+}
+
+// Two circuits come together at a place.
+pub fn shared(place: usize, a: Circuit, b: Circuit) -> Change
+    ensures { result ≡ place gets together a b }
+{
+    Change {
+        place,
+        slot: Slot::together(a, b),
+    }
+}
+
+// A circuit comes to stand alone at a place.
+fn alone(place: usize, circuit: Circuit) -> Change
+    ensures { result ≡ place gets alone circuit }
+{
+    Change {
+        place,
+        slot: Slot::Alone(circuit),
     }
 }
 
@@ -30,12 +51,12 @@ pub fn joined(circuit: Circuit, partner: Standing) -> Planned
     requires { partner.place < place_count }
     ensures { Plans (joining circuit partner) result }
 {
-    let place = partner.place;
-    let shared = Change {
-        place,
-        slot: Slot::together(partner.circuit, circuit),
-    };
-    Planned::taking(place, Changes::one(shared), Moves::none(), 0)
+    Planned::taking(
+        partner.place,
+        Changes::one(shared(partner.place, partner.circuit, circuit)),
+        Moves::none(),
+        0,
+    )
 }
 
 // Step 2: it takes an unlit place.
@@ -43,11 +64,7 @@ pub fn lighted(circuit: Circuit, place: usize) -> Planned
     requires { place < place_count }
     ensures { Plans (lighting circuit place) result }
 {
-    let lit = Change {
-        place,
-        slot: Slot::Alone(circuit),
-    };
-    Planned::taking(place, Changes::one(lit), Moves::none(), 0)
+    Planned::taking(place, Changes::one(alone(place, circuit)), Moves::none(), 0)
 }
 
 // Step 3a: a stays, b moves to it, and the new circuit takes the place left.
@@ -55,20 +72,13 @@ pub fn one_move(circuit: Circuit, a: Standing, b: Standing, looks: u16) -> Plann
     requires { (a.place < place_count) × (b.place < place_count) }
     ensures { Plans (one_move circuit a b looks) result }
 {
-    let stays = a.place;
-    let left = b.place;
-    let shared = Change {
-        place: stays,
-        slot: Slot::together(a.circuit, b.circuit),
-    };
-    let taken = Change {
-        place: left,
-        slot: Slot::Alone(circuit),
-    };
     Planned::taking(
-        left,
-        Changes::two(shared, taken),
-        Moves::one(moves_to(b, stays)),
+        b.place,
+        Changes::two(
+            shared(a.place, a.circuit, b.circuit),
+            alone(b.place, circuit),
+        ),
+        Moves::one(moves_to(b, a.place)),
         looks,
     )
 }
@@ -78,33 +88,15 @@ pub fn two_moves(circuit: Circuit, x: Standing, a: Standing, looks: u16) -> Plan
     requires { (x.place < place_count) × (a.place < place_count) }
     ensures { Plans (two_moves circuit x a looks) result }
 {
-    let meet = x.place;
-    let left = a.place;
-    let gone = x.circuit;
-    let shared = Change {
-        place: meet,
-        slot: Slot::together(a.circuit, circuit),
-    };
-    let given = Change {
-        place: left,
-        slot: Slot::Alone(gone),
-    };
     Planned::taking(
-        meet,
-        Changes::two(shared, given),
-        Moves::two(moves_to(x, left), moves_to(a, meet)),
+        x.place,
+        Changes::two(
+            shared(x.place, a.circuit, circuit),
+            alone(a.place, x.circuit),
+        ),
+        Moves::two(moves_to(x, a.place), moves_to(a, x.place)),
         looks,
     )
-}
-
-// The moves of step 3b with old members a then b, in their order.
-fn three_records(x: Standing, a: Standing, b: Standing) -> Moves
-    requires { (x.place < place_count) × (a.place < place_count) × (b.place < place_count) }
-    ensures { result ≡ three (moves_to x a.place) (moves_to a x.place) (moves_to b x.place) }
-{
-    let meet = x.place;
-    let left = a.place;
-    Moves::three(moves_to(x, left), moves_to(a, meet), moves_to(b, meet))
 }
 
 // Step 3b with old members a then b: x moves to a's place, a and b to x's, and the new circuit takes b's old place.
@@ -112,26 +104,18 @@ pub fn three_moves(circuit: Circuit, x: Standing, a: Standing, b: Standing, look
     requires { (x.place < place_count) × (a.place < place_count) × (b.place < place_count) }
     ensures { Plans (three_moves circuit x a b looks) result }
 {
-    let meet = x.place;
-    let left = a.place;
-    let last = b.place;
-    let gone = x.circuit;
-    let shared = Change {
-        place: meet,
-        slot: Slot::together(a.circuit, b.circuit),
-    };
-    let given = Change {
-        place: left,
-        slot: Slot::Alone(gone),
-    };
-    let taken = Change {
-        place: last,
-        slot: Slot::Alone(circuit),
-    };
     Planned::taking(
-        last,
-        Changes::three(shared, given, taken),
-        three_records(x, a, b),
+        b.place,
+        Changes::three(
+            shared(x.place, a.circuit, b.circuit),
+            alone(a.place, x.circuit),
+            alone(b.place, circuit),
+        ),
+        Moves::three(
+            moves_to(x, a.place),
+            moves_to(a, x.place),
+            moves_to(b, x.place),
+        ),
         looks,
     )
 }

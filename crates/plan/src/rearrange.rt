@@ -11,19 +11,16 @@ use crate::plan::{one_move, three_moves, two_moves};
 use channels::{Channel, Standing};
 use lightpath::{Circuit, Place};
 use limits::PLACE_COUNT;
-use pairs::Found;
+use pairs::{Found, Pair};
 
 // Whether x stands in a direction in which the pair a and b can share.
 pub fn stands_right(nodes: u8, a: Standing, b: Standing, x: Standing) -> bool
     requires { 0 < nodes }
     ensures { result ≡ stands_right nodes a b x }
 {
-    if PLACE_COUNT <= x.place {
-        return false;
-    }
-    let place = x.place as u8;
-    let direction = Place(place).direction();
-    a.circuit.can_share(b.circuit, nodes, direction)
+    x.place < PLACE_COUNT
+        && a.circuit
+            .can_share(b.circuit, nodes, Place(x.place as u8).direction())
 }
 
 // Step 3b: x moves to a's place, a and an old b to x's. The new circuit joins a there, or takes b's old place.
@@ -31,13 +28,16 @@ fn exchanged(circuit: Circuit, found: Found) -> Planned
     requires { (found.x.place < place_count) × (found.pair.first.place < place_count) }
     ensures { Plans (exchanging circuit found.x found.pair.first found.pair.second found.pair.looks) result }
 {
-    let x = found.x;
-    let a = found.pair.first;
-    let b = found.pair.second;
-    if b.place < PLACE_COUNT {
-        return three_moves(circuit, x, a, b, found.pair.looks);
+    let Pair {
+        first,
+        second,
+        looks,
+    } = found.pair;
+    if second.place < PLACE_COUNT {
+        three_moves(circuit, found.x, first, second, looks)
+    } else {
+        two_moves(circuit, found.x, first, looks)
     }
-    two_moves(circuit, x, a, found.pair.looks)
 }
 
 // Step 3 with the pair found: 3a where a member of it stands right, and 3b where neither does.
@@ -45,15 +45,18 @@ fn rearranged(nodes: u8, circuit: Circuit, found: Found) -> Planned
     requires { Movable nodes found }
     ensures { Plans (rearranging nodes circuit found.x found.pair.first found.pair.second found.pair.looks) result }
 {
-    let a = found.pair.first;
-    let b = found.pair.second;
-    if stands_right(nodes, a, b, a) {
-        return one_move(circuit, a, b, found.pair.looks);
+    let Pair {
+        first,
+        second,
+        looks,
+    } = found.pair;
+    if stands_right(nodes, first, second, first) {
+        one_move(circuit, first, second, looks)
+    } else if stands_right(nodes, first, second, second) {
+        one_move(circuit, second, first, looks)
+    } else {
+        exchanged(circuit, found)
     }
-    if stands_right(nodes, a, b, b) {
-        return one_move(circuit, b, a, found.pair.looks);
-    }
-    exchanged(circuit, found)
 }
 
 // Step 3's plan, which is the plan of the steps where steps 1 and 2 find no place.
@@ -66,6 +69,9 @@ pub fn step_three(
     requires { Ready nodes limit channels circuit × (limit ≤ join_place nodes limit channels circuit) × (limit ≤ unlit_place nodes limit channels circuit) }
     ensures { Plans (plan_of nodes limit channels circuit) result }
 {
-    let found = pairs::found_for(nodes, limit, channels, circuit);
-    rearranged(nodes, circuit, found)
+    rearranged(
+        nodes,
+        circuit,
+        pairs::found_for(nodes, limit, channels, circuit),
+    )
 }

@@ -16,7 +16,6 @@ use Rattle.buffer.specs.Put.{Put, Printed}
 use Rattle.buffer.specs.Appended.{Appended}
 use Rattle.buffer.proofs.Put.{wider}
 use Rattle.text.specs.Bytes.{bytes}
-use Rattle.refusals.specs.declared.Verdict.TheVariants.{Granted as granted}
 use Rattle.grid.specs.Tuning.{tuned_of, carried_of}
 use Rattle.ring.specs.Table.{meets_rules}
 use Rattle.ring.specs.Tidying.{tidying_by, decide_tidy_of}
@@ -34,8 +33,7 @@ use Rattle.load.specs.Load.{loads}
 use Rattle.load.specs.Report.{report_of, buffer_after}
 use Rattle.load.proofs.Filled.{loads_length}
 use Rattle.link_question.specs.Link.{link_of}
-use Rattle.hex_text.specs.declared.Digits.{Digits}
-use Rattle.hex_text.specs.declared.Digits.TheVariants.{Bytes, Bad}
+use Rattle.std.specs.Prelude.{Option, Some, None}
 use Rattle.commands.specs.declared.Command.{Command}
 use Rattle.commands.specs.declared.Command.TheVariants.{Read, ReadFile, Ask, Frequency, Wavelength, Tidy, From, Desk as at_desk}
 use Rattle.commands.specs.declared.Question.{Question}
@@ -47,15 +45,15 @@ use Rattle.row_lines.specs.Lines.{from_text, from_room}
 use Rattle.node_lines.specs.Lines.{to_text, nodes_text, nodes_room}
 use Rattle.tidy_lines.specs.Lines.{tidy_line, tidy_room}
 use Rattle.picture.specs.Room.{picture_room}
-use Rattle.desk.specs.Desk.{Desk, desk_of, Outcome, refuse, run_line, HasRun}
-use Rattle.desk.specs.declared.DeskState.{DeskState}
+use Rattle.desk.specs.Desk.{Desk, desk_of, answer_room, Outcome, refuse, run_line, HasRun}
 use Rattle.desk.specs.declared.Ran.{Ran}
-use Rattle.desk.proofs.Running.{keeps_held, desk_held}
+use Rattle.desk.proofs.Running.{keeps_held, desk_held, no_heading}
 use Rattle.planner_lines.specs.Line.{Free, says, if_ready, read_form, read_word, run_tidy, plan_line}
 use Rattle.planner_lines.specs.Ran.{CanAnswer, LineAnswered, FileAnswered, LineRun}
 use Rattle.planner_lines.proofs.Script.{plan_opens}
 use Rattle.saved_forms.specs.Saved.{FormIn, WordRead}
 use Rattle.planner.specs.Asks.{Asks, Said, FileWritten, QuestionAnswered, QuestionRun}
+use Rattle.std.specs.Prelude.{Ok}
 
 -- nothing is free, but for a picture or whether a file was written
 abbrev drawn : List ℕ → Free
@@ -110,16 +108,26 @@ ready_is d o h = sym (pick_true d.ready _ _ _ h refl)
 unready_is : (d : Desk) (o : Outcome) → d.ready ≡ false → if_ready d o ≡ refuse d
 unready_is d o h = sym (pick_false d.ready _ _ _ h refl)
 
-module _ (d : DeskState) (keys rests l : List ℕ) (at : ℕ) (q : CanAnswer d keys rests l at) where
+module _ (d : Option Heading) (keys rests l : List ℕ) (at : ℕ) (q : CanAnswer d keys rests l at) where
   -- a text was printed, and the desk stays
   pub said : (text l' : List ℕ) (r : Ran) → Said d text l at l' r → LineAnswered (says (desk_of d keys rests) text) l at keys rests l' r
   said text l' r s = record { desk = rw s.desk; text = s.printed; keeps = rw s.desk q.keeps }
 
-  said_ready : (text l' : List ℕ) (r : Ran) → d.ready ≡ true → Said d text l at l' r → LineAnswered (if_ready (desk_of d keys rests) (says (desk_of d keys rests) text)) l at keys rests l' r
+  said_ready : (text l' : List ℕ) (r : Ran) → (desk_of d keys rests).ready ≡ true → Said d text l at l' r → LineAnswered (if_ready (desk_of d keys rests) (says (desk_of d keys rests) text)) l at keys rests l' r
   said_ready text l' r h s = rw (ready_is (desk_of d keys rests) (says (desk_of d keys rests) text) h) (said text l' r s)
 
-  said_unready : (o : Outcome) (l' : List ℕ) (r : Ran) → d.ready ≡ false → Said d line_refused l at l' r → LineAnswered (if_ready (desk_of d keys rests) o) l at keys rests l' r
-  said_unready o l' r h s = rw (unready_is (desk_of d keys rests) o h) (said line_refused l' r s)
+  -- a line was refused
+  abbrev Refused : List ℕ → Ran → Type 0
+  Refused l' r = (r.desk ≡ d) × Printed answer_room l at line_refused l' r.next
+
+  said_refused : (l' : List ℕ) (r : Ran) → Refused l' r → LineAnswered (says (desk_of d keys rests) line_refused) l at keys rests l' r
+  said_refused l' r s = said line_refused l' r (record { desk = s.0; printed = wider (omega arith) s.1 })
+
+  said_unready : (o : Outcome) (l' : List ℕ) (r : Ran) → ((h : Heading) → d ≡ Some h → ⊥) → Refused l' r → LineAnswered (if_ready (desk_of d keys rests) o) l at keys rests l' r
+  said_unready o l' r h s = rw (unready_is (desk_of d keys rests) o (rw (no_heading d h))) (said_refused l' r s)
+
+  pub refuse_room : at + answer_room ≤ length l
+  refuse_room = omega (arith, q.room)
 
   pub long_keys_lem : length keys ≡ most_circuits
   long_keys_lem = q.keeps.long_keys
@@ -128,18 +136,18 @@ module _ (d : DeskState) (keys rests l : List ℕ) (at : ℕ) (q : CanAnswer d k
   long_rests_lem = q.keeps.long_rests
 
   -- a word is read
-  module _ (word form : List ℕ) (ds : Digits) (w : WordRead word form ds) where
-    pub word_taken : (n : ℕ) (keys' rests' l' : List ℕ) (r : Ran) → ds ≡ Bytes n → LineAnswered (read_form (desk_of d keys rests) (take n form)) l at keys' rests' l' r
+  module _ (word form : List ℕ) (ds : Option ℕ) (w : WordRead word form ds) where
+    pub word_taken : (n : ℕ) (keys' rests' l' : List ℕ) (r : Ran) → ds ≡ Some n → LineAnswered (read_form (desk_of d keys rests) (take n form)) l at keys' rests' l' r
         → LineAnswered (read_word (desk_of d keys rests) word) l at keys' rests' l' r
     unfolding read_word
     word_taken n keys' rests' l' r e h = let k = rw e at w in rw (k.1, ← k.2) h
 
-    pub word_bad : (l' : List ℕ) (r : Ran) → ds ≡ Bad → Said d line_refused l at l' r → LineAnswered (read_word (desk_of d keys rests) word) l at keys rests l' r
+    pub word_bad : (l' : List ℕ) (r : Ran) → ds ≡ None → (r.desk ≡ d) × Printed answer_room l at line_refused l' r.next → LineAnswered (read_word (desk_of d keys rests) word) l at keys rests l' r
     unfolding read_word
-    word_bad l' r e s = let k = rw e at w in rw k (said line_refused l' r s)
+    word_bad l' r e s = let k = rw e at w in rw k (said_refused l' r s)
 
   -- before there is a table
-  module _ (none : d.ready ≡ false) (l' : List ℕ) (r : Ran) (s : Said d line_refused l at l' r) where
+  module _ (none : (h : Heading) → d ≡ Some h → ⊥) (l' : List ℕ) (r : Ran) (s : (r.desk ≡ d) × Printed answer_room l at line_refused l' r.next) where
     pub unready_question : (a : Question) → QuestionRun (desk_of d keys rests) a l at keys rests l' r
     unready_question a = record { free = drawn []; none = refl; ran = said_unready _ l' r none s }
 
@@ -151,32 +159,35 @@ module _ (d : DeskState) (keys rests l : List ℕ) (at : ℕ) (q : CanAnswer d k
     unready_tidy = said_unready _ l' r none s
 
   -- the table of an accepted ring
-  module _ (ready : d.ready ≡ true) where
-    held : HoldsTable (table_in d.heading keys rests) d.heading keys rests
-    held = q.keeps.held ready
+  module _ (heading : Heading) (some : d ≡ Some heading) where
+    held : HoldsTable (table_in heading keys rests) heading keys rests
+    held = q.keeps.held heading some
 
-    most : d.heading.count ≤ most_circuits
-    most = held_most (table_in d.heading keys rests) d.heading keys rests held
+    most : heading.count ≤ most_circuits
+    most = held_most (table_in heading keys rests) heading keys rests held
 
-    pub keys_within : d.heading.count ≤ length keys
+    pub keys_within : heading.count ≤ length keys
     keys_within = omega (arith, most, long_keys_lem)
 
-    pub rests_within : d.heading.count ≤ length rests
+    pub rests_within : heading.count ≤ length rests
     rests_within = omega (arith, most, long_rests_lem)
 
     -- its entries are the keys and the rests
-    pub held_entries : Holds d.heading.nodes d.heading.ports (places_of keys rests d.heading.count) keys rests d.heading.count
+    pub held_entries : Holds heading.nodes heading.ports (places_of keys rests heading.count) keys rests heading.count
     held_entries = held.holds
 
     -- it is the desk's
-    desk_table : (desk_of d keys rests).table ≡ table_in d.heading keys rests
-    desk_table = rw ready
+    desk_table : (desk_of d keys rests).table ≡ table_in heading keys rests
+    desk_table = rw some
 
-    pub from_looked : (node : ℕ) (l' : List ℕ) (next : ℕ) → Printed from_room l at (from_text d.heading.nodes (places_of keys rests d.heading.count) node) l' next
+    ready : (desk_of d keys rests).ready ≡ true
+    ready = rw some
+
+    pub from_looked : (node : ℕ) (l' : List ℕ) (next : ℕ) → Printed from_room l at (from_text heading.nodes (places_of keys rests heading.count) node) l' next
         → LineAnswered (if_ready (desk_of d keys rests) (says (desk_of d keys rests) (from_text (desk_of d keys rests).table.nodes (desk_of d keys rests).table.channels node))) l at keys rests l' (record { desk = d; next = next })
     from_looked node l' next p = said_ready _ l' _ ready (record { desk = refl; printed = rw desk_table (wider (omega arith) p) })
 
-    module _ (t : RingTable) (is : t ≡ table_in d.heading keys rests) where
+    module _ (t : RingTable) (is : t ≡ table_in heading keys rests) where
       pub held_valid : meets_rules t ≡ true
       held_valid = rw is held.holds.rules
 
@@ -191,14 +202,14 @@ module _ (d : DeskState) (keys rests l : List ℕ) (at : ℕ) (q : CanAnswer d k
       -- and tidied
       module _ (a : TidyDecision) (e : a ≡ decide_tidy_of t tidy_records) where
         pub tidy_few : a.moves.count ≤ tidy_records
-        tidy_few = rw (e, ← tidy_long t tidy_records held_valid (tidying_by t granted) (omega arith) refl) (few_moves t held_valid)
+        tidy_few = rw (e, ← tidy_long t tidy_records held_valid (tidying_by t (Ok tt)) (omega arith) refl) (few_moves t held_valid)
 
         pub tidied_valid : meets_rules a.tidied.table ≡ true
         tidied_valid = rw e (tidy_rules t held_valid tidy_records)
 
         pub tidy_run : (keys' rests' l' : List ℕ) (h : Heading) (next : ℕ) → HoldsTable a.tidied.table h keys' rests'
             → Printed tidy_room l at (tidy_line a.tidied.answer ++ move_lines (recorded a.moves)) l' next
-            → LineAnswered (run_tidy (desk_of d keys rests)) l at keys' rests' l' (record { desk = record { heading = h; ready = true }; next = next })
+            → LineAnswered (run_tidy (desk_of d keys rests)) l at keys' rests' l' (record { desk = Some h; next = next })
         unfolding run_tidy
         tidy_run keys' rests' l' h next H p =
             rw (ready_is (desk_of d keys rests) _ ready, desk_table, ← is, ← e) (
@@ -260,7 +271,7 @@ module _ (l : List ℕ) (r : Command) (s : ℕ) (e : r ≡ command_of l) (k : r 
       short false h = let i : Read s ≡ at_desk = rw (← k, e, h) in let z : ◌≡◌ {A = ℕ} 0 1 = cc in absurd (omega arith)
 
 -- a line was run, by its command
-module _ (d : DeskState) (keys rests line l : List ℕ) (at : ℕ) (q : CanAnswer d keys rests l at) (c : Command) (is : c ≡ command_of line) where
+module _ (d : Option Heading) (keys rests line l : List ℕ) (at : ℕ) (q : CanAnswer d keys rests l at) (c : Command) (is : c ≡ command_of line) where
   whole : (free : Free) (keys' rests' l' : List ℕ) (r : Ran) → free.content ≡ [] → LineAnswered (plan_line free (desk_of d keys rests) line) l at keys' rests' l' r
       → LineRun (desk_of d keys rests) line l at keys' rests' l' r
   whole free keys' rests' l' r none h = record { free = free; few = rw none (omega arith); ran = h }

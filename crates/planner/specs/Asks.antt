@@ -1,5 +1,5 @@
 -- What a question of the table asks for and is answered, and a line that changes nothing. Assumes nothing. Serves proofs inside only.
-use Rattle.std.specs.Prelude.{ℕ, ◌+◌, ◌≤◌, ◌≡◌, Bool, true, List, [], length}
+use Rattle.std.specs.Prelude.{ℕ, ◌+◌, ◌≤◌, ◌≡◌, Bool, true, List, [], length, Option}
 use Rattle.ring.specs.Table.{meets_rules}
 use Rattle.ring.specs.declared.RingTable.{RingTable}
 use Rattle.basis.specs.Choice.{pick}
@@ -8,7 +8,7 @@ use Rattle.text.specs.Bytes.{bytes}
 use Rattle.inventory.specs.Lines.{length_line, length_room}
 use Rattle.commands.specs.declared.Question.{Question}
 use Rattle.desk.specs.Desk.{Desk}
-use Rattle.desk.specs.declared.DeskState.{DeskState}
+use Rattle.roster.specs.declared.Heading.{Heading}
 use Rattle.desk.specs.declared.Ran.{Ran}
 use Rattle.answer_room.specs.Room.{line_room}
 use Rattle.planner_lines.specs.Line.{Free, says, if_ready, answer_text}
@@ -20,7 +20,7 @@ pub record Asks (t : RingTable) (l : List ℕ) (at : ℕ) : Type 0 where
   pub room : at + line_room ≤ length l
 
 -- a text was printed, and the desk is as it was
-pub record Said (s : DeskState) (text l : List ℕ) (at : ℕ) (l' : List ℕ) (r : Ran) : Type 0 where
+pub record Said (s : Option Heading) (text l : List ℕ) (at : ℕ) (l' : List ℕ) (r : Ran) : Type 0 where
   pub desk : r.desk ≡ s
   pub printed : Printed line_room l at text l' r.next
 

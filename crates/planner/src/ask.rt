@@ -52,7 +52,7 @@ pub fn answer_load(table: RingTable, out: &mut [u8], at: usize) -> usize
     ensures { Printed (load_room (2 * most_nodes)) out.old at (load_line (loads table.nodes table.channels)) out.new result }
 {
     let mut loads = [0u8; MOST_LOADS];
-    load::report_valid(table, &mut loads);
+    let _ = load::report_valid(table, &mut loads);
     let count = 2 * table.nodes as usize;
     inventory::put_loads(out, at, &loads[..count])
 }
@@ -78,8 +78,7 @@ pub fn answer_circuits(table: RingTable, out: &mut [u8], at: usize) -> usize
     requires { Asks table out.old at }
     ensures { Printed circuits_room out.old at (circuits_text table.channels) out.new result }
 {
-    let channels = table.channels;
-    inventory::put_circuits(out, at, channels)
+    inventory::put_circuits(out, at, table.channels)
 }
 
 // `show`

@@ -7,34 +7,24 @@ mod ask;
 
 ghost use Rattle.std.specs.Prelude.{◌≡◌, ◌+◌, ◌≤◌, length};
 ghost use Rattle.commands.specs.Command.{longest_command, command_of};
-ghost use Rattle.print.specs.Answers.{line_refused};
 ghost use Rattle.row_lines.specs.Lines.{from_text};
 ghost use Rattle.desk.specs.Desk.{desk_of};
 ghost use Rattle.desk.specs.Demand3.{Opens, left_by};
 ghost use Rattle.answer_room.specs.Room.{line_room};
 ghost use Rattle.planner_lines.specs.Line.{says, if_ready, read_word, run_tidy};
 ghost use Rattle.planner_lines.specs.Ran.{CanAnswer, LineAnswered, LineRun};
-ghost use Rattle.planner.specs.Asks.{Asks, Said, QuestionAnswered, QuestionRun};
+ghost use Rattle.planner.specs.Asks.{Asks, QuestionAnswered, QuestionRun};
 
 use commands::{Command, MOST_READ, Question};
-use desk::{DeskState, Ran};
+use desk::Ran;
 use grid::GridPlan;
-use hex_text::Digits;
 use limits::TIDY_RECORDS;
 use ring::RingTable;
-
-// Prints `line refused`, and nothing changes.
-fn refuse(desk: DeskState, out: &mut [u8], at: usize) -> Ran
-    requires { at + line_room ≤ length out.old }
-    ensures { Said desk line_refused out.old at out.new result }
-{
-    let next = print::put_line_refused(out, at);
-    Ran { desk, next }
-}
+use roster::Heading;
 
 // `read FORM` with the form's digits.
 fn run_read(
-    desk: DeskState,
+    desk: Option<Heading>,
     keys: &mut [u64],
     rests: &mut [u64],
     word: &[u8],
@@ -45,12 +35,9 @@ fn run_read(
     ensures { LineAnswered (read_word (desk_of desk keys.old rests.old) word.now) out.old at keys.new rests.new out.new result }
 {
     let mut form = [0u8; MOST_READ];
-    let digits = saved_forms::read_word(word, &mut form);
-    match digits {
-        Digits::Bytes(count) => {
-            saved_forms::take_form(desk, keys, rests, &form[..count], out, at)
-        }
-        Digits::Bad => refuse(desk, out, at),
+    match saved_forms::read_word(word, &mut form) {
+        Some(count) => saved_forms::take_form(desk, keys, rests, &form[..count], out, at),
+        None => desk::refuse(desk, out, at),
     }
 }
 
@@ -85,7 +72,7 @@ fn answer(
 // A question of the table that the keys and the rests are of, which is refused where there is none.
 fn run_question(
     rt: &HostRuntime,
-    desk: DeskState,
+    desk: Option<Heading>,
     keys: &[u64],
     rests: &[u64],
     question: Question,
@@ -96,42 +83,41 @@ fn run_question(
     requires { CanAnswer desk keys.now rests.now out.old at × (Command.Ask question ≡ command_of line.now) }
     ensures { QuestionRun (desk_of desk keys.now rests.now) question out.old at keys.now rests.now out.new result }
 {
-    if !desk.ready {
-        return refuse(desk, out, at);
-    }
-    let heading = desk.heading;
+    let Some(heading) = desk else {
+        return desk::refuse(desk, out, at);
+    };
     let table = roster::table_in(heading, keys, rests);
     let next = answer(rt, table, question, line, out, at);
     Ran { desk, next }
 }
 
 // `tidy`, with 128 records lent, which is refused where there is no table.
-fn run_tidy(desk: DeskState, keys: &mut [u64], rests: &mut [u64], out: &mut [u8], at: usize) -> Ran
+fn run_tidy(
+    desk: Option<Heading>,
+    keys: &mut [u64],
+    rests: &mut [u64],
+    out: &mut [u8],
+    at: usize,
+) -> Ran
     requires { CanAnswer desk keys.old rests.old out.old at }
     ensures { LineAnswered (run_tidy (desk_of desk keys.old rests.old)) out.old at keys.new rests.new out.new result }
 {
-    if !desk.ready {
-        return refuse(desk, out, at);
-    }
-    let heading = desk.heading;
+    let Some(heading) = desk else {
+        return desk::refuse(desk, out, at);
+    };
     let table = roster::table_in(heading, keys, rests);
     let decision = table.decide_tidy_valid(TIDY_RECORDS);
-    let tidied = decision.tidied;
-    let answer = tidied.answer;
-    let next = tidy_lines::put_tidying(out, at, answer, decision.moves);
-    let heading = roster::hold(keys, rests, tidied.table);
+    let next = tidy_lines::put_tidying(out, at, decision.tidied.answer, decision.moves);
+    let heading = roster::hold(keys, rests, decision.tidied.table);
     Ran {
-        desk: DeskState {
-            heading,
-            ready: true,
-        },
+        desk: Some(heading),
         next,
     }
 }
 
 // `from NODE`, from the node's row of the keys and the rests; it is refused where there is no table.
 fn run_from(
-    desk: DeskState,
+    desk: Option<Heading>,
     keys: &[u64],
     rests: &[u64],
     node: u8,
@@ -141,10 +127,9 @@ fn run_from(
     requires { CanAnswer desk keys.now rests.now out.old at }
     ensures { LineAnswered (if_ready (desk_of desk keys.now rests.now) (says (desk_of desk keys.now rests.now) (from_text (desk_of desk keys.now rests.now).table.nodes (desk_of desk keys.now rests.now).table.channels node))) out.old at keys.now rests.now out.new result }
 {
-    if !desk.ready {
-        return refuse(desk, out, at);
-    }
-    let heading = desk.heading;
+    let Some(heading) = desk else {
+        return desk::refuse(desk, out, at);
+    };
     let next = row_lines::put_from(out, at, heading, keys, rests, node);
     Ran { desk, next }
 }
@@ -153,7 +138,7 @@ fn run_from(
 // program runs it.
 pub fn run_line(
     rt: &HostRuntime,
-    desk: DeskState,
+    desk: Option<Heading>,
     keys: &mut [u64],
     rests: &mut [u64],
     line: &[u8],
@@ -164,8 +149,7 @@ pub fn run_line(
     ensures answer { LineRun (desk_of desk keys.old rests.old) line.now out.old at keys.new rests.new out.new result }
     ensures demand3 { Opens (desk_of desk keys.old rests.old) line.now (left_by at keys.new rests.new out.new result) }
 {
-    let command = commands::parse_command(line);
-    match command {
+    match commands::parse_command(line) {
         Command::Read(start) => run_read(desk, keys, rests, &line[start..], out, at),
         Command::ReadFile(start) => {
             saved_forms::run_read_file(rt, desk, keys, rests, &line[start..], out, at)

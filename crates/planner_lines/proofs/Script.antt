@@ -17,7 +17,8 @@ use Rattle.commands.specs.declared.Command.TheVariants.{Desk}
 use Rattle.commands.specs.Command.{longest_command, command_words, command_of}
 use Rattle.desk.specs.Desk.{Desk as DeskOf, desk_of, run_line}
 use Rattle.desk.specs.Demand3.{Opens, left_by}
-use Rattle.desk.specs.declared.DeskState.{DeskState}
+use Rattle.std.specs.Prelude.{Option}
+use Rattle.roster.specs.declared.Heading.{Heading}
 use Rattle.desk.specs.declared.Ran.{Ran}
 use Rattle.desk.proofs.Opens.{left_is, line_opens}
 use Rattle.planner_lines.specs.Line.{Free, plan_line}
@@ -72,7 +73,7 @@ asks_some : (l : List ℕ) (c : Circuit) → (parse_line l).request ≡ Open c �
 asks_some l c e k = let i : Open c ≡ Bad = sym e ∙ k in let z : ◌≡◌ {A = ℕ} 0 1 = cc in omega arith
 
 -- Demand 3: what an opening in `ringplan` leaves and prints is the table, place, moves, looks and records of which demand 3 holds
-pub plan_opens : (d : DeskState) (keys rests line l : List ℕ) (at : ℕ) (keys' rests' l' : List ℕ) (r : Ran) → CanAnswer d keys rests l at
+pub plan_opens : (d : Option Heading) (keys rests line l : List ℕ) (at : ℕ) (keys' rests' l' : List ℕ) (r : Ran) → CanAnswer d keys rests l at
     → LineRun (desk_of d keys rests) line l at keys' rests' l' r → Opens (desk_of d keys rests) line (left_by at keys' rests' l' r)
 plan_opens d keys rests line l at keys' rests' l' r s h =
     rw (left_is (plan_line h.free (desk_of d keys rests) line) l at keys' rests' l' r h.ran.desk h.ran.text.put (omega (arith, h.ran.text.short, s.room)))

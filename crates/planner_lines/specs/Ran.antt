@@ -1,16 +1,16 @@
 -- A line run by the planner's program on keys and rests that are lent: what it asks for, and what it leaves. Assumes nothing.
 -- What running any line asks for and promises.
-use Rattle.std.specs.Prelude.{ℕ, ◌+◌, ◌≤◌, ◌≡◌, Bool, List, length}
+use Rattle.std.specs.Prelude.{ℕ, ◌+◌, ◌≤◌, ◌≡◌, Bool, List, length, Option}
 use Rattle.buffer.specs.Put.{Printed}
 use Rattle.desk.specs.Desk.{Desk, desk_of, Keeps, Outcome}
-use Rattle.desk.specs.declared.DeskState.{DeskState}
+use Rattle.roster.specs.declared.Heading.{Heading}
 use Rattle.desk.specs.declared.Ran.{Ran}
 use Rattle.commands.specs.Command.{most_read}
 use Rattle.answer_room.specs.Room.{line_room}
 use Rattle.planner_lines.specs.Line.{Free, read_file, plan_line}
 
 -- keys and rests that hold the desk's table, and room for the answer
-pub record CanAnswer (s : DeskState) (keys rests l : List ℕ) (at : ℕ) : Type 0 where
+pub record CanAnswer (s : Option Heading) (keys rests l : List ℕ) (at : ℕ) : Type 0 where
   pub keeps : Keeps s keys rests
   pub room : at + line_room ≤ length l
 

@@ -9,17 +9,16 @@ use Rattle.lightpath.specs.declared.Place.{Place}
 use Rattle.moves.specs.Records.{listed}
 use Rattle.moves.specs.declared.Move.{Move}
 use Rattle.moves.specs.declared.Moves.{Moves}
-use Rattle.refusals.specs.Refusal.{number_of}
+use Rattle.refusals.specs.Refusal.{number_of, Verdict}
 use Rattle.refusals.specs.declared.Refusal.{Refusal}
-use Rattle.refusals.specs.declared.Verdict.{Verdict}
-use Rattle.refusals.specs.declared.Verdict.TheVariants.{Granted as granted, Refused as refused}
-use Rattle.ring.specs.declared.Opening.{Opening}
-use Rattle.ring.specs.declared.Opening.TheVariants.{Taken as taken, Refused as not_opened}
 use Rattle.text.specs.Bytes.{bytes}
 use Rattle.buffer.specs.Put.{Put, Printed}
 use Rattle.buffer.proofs.Put.{put_none, put_put}
 use Rattle.print.specs.Answers.{piece, ring_line, close_line, open_line, move_line, move_lines, open_room, move_room, close_room, ring_room}
 use Rattle.print.specs.Filled.{filled, filled_room}
+use Rattle.ring.specs.Opening.{Opening}
+use Rattle.ring.specs.declared.Taken.{Taken}
+use Rattle.std.specs.Prelude.{Ok, Err}
 
 module _ (l l' : List ℕ) (at e : ℕ) where
   -- words were printed with numbers put in
@@ -30,31 +29,31 @@ module _ (l l' : List ℕ) (at e : ℕ) where
   pub number_is : (most : ℕ) (words : List ℕ) (m n : ℕ) → m ≡ n → Printed most l at (filled words m 0 0 0) l' e → Printed most l at (filled words n 0 0 0) l' e
   number_is most words m n h p = rw (← h) p
 
-  pub ring_made : (n w : ℕ) (v : Verdict) → v ≡ granted → Prints "ring # wavelengths #\n" n w 0 0 → Printed ring_room l at (ring_line n w v) l' e
+  pub ring_made : (n w : ℕ) (v : Verdict) → v ≡ Ok tt → Prints "ring # wavelengths #\n" n w 0 0 → Printed ring_room l at (ring_line n w v) l' e
   unfolding filled piece
   ring_made n w v h p = rw h p
 
-  pub ring_refused : (n w : ℕ) (v : Verdict) (r : Refusal) → v ≡ refused r → Prints "ring refused #\n" (number_of r) 0 0 0
+  pub ring_refused : (n w : ℕ) (v : Verdict) (r : Refusal) → v ≡ Err r → Prints "ring refused #\n" (number_of r) 0 0 0
       → Printed ring_room l at (ring_line n w v) l' e
   unfolding filled piece
   ring_refused n w v r h p = record { put = rw h p.put; short = omega (arith, p.short) }
 
-  pub closed : (n : ℕ) (v : Verdict) → v ≡ granted → Prints "close #\n" n 0 0 0 → Printed close_room l at (close_line n v) l' e
+  pub closed : (n : ℕ) (v : Verdict) → v ≡ Ok tt → Prints "close #\n" n 0 0 0 → Printed close_room l at (close_line n v) l' e
   unfolding filled piece
   closed n v h p = record { put = rw h p.put; short = omega (arith, p.short) }
 
-  pub not_closed : (n : ℕ) (v : Verdict) (r : Refusal) → v ≡ refused r → Prints "close refused #\n" (number_of r) 0 0 0
+  pub not_closed : (n : ℕ) (v : Verdict) (r : Refusal) → v ≡ Err r → Prints "close refused #\n" (number_of r) 0 0 0
       → Printed close_room l at (close_line n v) l' e
   unfolding filled piece
   not_closed n v r h p = rw h p
 
   module _ (n : ℕ) (a : Opening) where
-    pub opened : (p : Place) (k looks : ℕ) → a ≡ taken p k looks → Prints "open # place # moves # looks #\n" n p.0 k looks
+    pub opened : (x : Taken) → a ≡ Ok x → Prints "open # place # moves # looks #\n" n x.place.0 x.moves x.looks
         → Printed open_room l at (open_line n a) l' e
     unfolding filled piece
-    opened p k looks h q = rw h q
+    opened x h q = rw h q
 
-    pub not_opened_lem : (r : Refusal) (m : ℕ) → a ≡ not_opened r → m ≡ number_of r → Prints "open # refused #\n" n m 0 0
+    pub not_opened_lem : (r : Refusal) (m : ℕ) → a ≡ Err r → m ≡ number_of r → Prints "open # refused #\n" n m 0 0
         → Printed open_room l at (open_line n a) l' e
     unfolding filled piece
     not_opened_lem r m h k q = record { put = rw (h, ← k) q.put; short = omega (arith, q.short) }

@@ -1,16 +1,13 @@
 -- What is printed in answer to a request: document 01, "The script program and its cases". Assumes nothing.
 -- What `put_opening`, `put_closing`, `put_ring` and `put_line_refused` promise.
-use Rattle.std.specs.Prelude.{ℕ, ◌+◌, ◌*◌, List, [], ◌∷◌, ◌++◌}
+use Rattle.std.specs.Prelude.{ℕ, ◌+◌, ◌*◌, List, [], ◌∷◌, ◌++◌, Ok, Err}
 use Prim.Native.String.{String}
 use Rattle.moves.specs.declared.Move.{Move}
 use Rattle.moves.specs.Records.{most_moves}
-use Rattle.refusals.specs.Refusal.{number_of}
-use Rattle.refusals.specs.declared.Verdict.{Verdict}
-use Rattle.refusals.specs.declared.Verdict.TheVariants.{Granted as granted, Refused as refused}
-use Rattle.ring.specs.declared.Opening.{Opening}
-use Rattle.ring.specs.declared.Opening.TheVariants.{Taken as taken, Refused as not_opened}
+use Rattle.refusals.specs.Refusal.{number_of, Verdict}
 use Rattle.text.specs.Bytes.{bytes}
 use Rattle.text.specs.Decimal.{decimal}
+use Rattle.ring.specs.Opening.{Opening}
 
 -- words and a number after them
 unfoldable pub piece : List ℕ → ℕ → List ℕ
@@ -27,13 +24,13 @@ line_refused = bytes "line refused\n"
 
 -- `ring N wavelengths W`, or `ring refused 1`
 abbrev pub ring_line : ℕ → ℕ → Verdict → List ℕ
-ring_line n w granted = line_of (("ring ", n) ∷ (" wavelengths ", w) ∷ [])
-ring_line n w (refused r) = line_of (("ring refused ", number_of r) ∷ [])
+ring_line n w (Ok _) = line_of (("ring ", n) ∷ (" wavelengths ", w) ∷ [])
+ring_line n w (Err r) = line_of (("ring refused ", number_of r) ∷ [])
 
 -- `close 13`, or `close refused 15`
 abbrev pub close_line : ℕ → Verdict → List ℕ
-close_line n granted = line_of (("close ", n) ∷ [])
-close_line n (refused r) = line_of (("close refused ", number_of r) ∷ [])
+close_line n (Ok _) = line_of (("close ", n) ∷ [])
+close_line n (Err r) = line_of (("close refused ", number_of r) ∷ [])
 
 -- `open 11 place 1 moves 0 looks 0`, or `open 16 refused 13`
 abbrev pub served_line : ℕ → ℕ → ℕ → ℕ → List ℕ
@@ -43,8 +40,8 @@ abbrev pub refused_line : ℕ → ℕ → List ℕ
 refused_line n reason = line_of (("open ", n) ∷ (" refused ", reason) ∷ [])
 
 abbrev pub open_line : ℕ → Opening → List ℕ
-open_line n (taken p k looks) = served_line n p.0 k looks
-open_line n (not_opened r) = refused_line n (number_of r)
+open_line n (Ok x) = served_line n x.place.0 x.moves x.looks
+open_line n (Err r) = refused_line n (number_of r)
 
 -- "move lines give number, old place, new place"
 unfoldable pub move_line : Move → List ℕ

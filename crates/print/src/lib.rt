@@ -11,7 +11,7 @@ ghost use Rattle.print.specs.Filled.{filled, filled_room};
 
 use moves::{MOST_MOVES, Move, Moves};
 use refusals::{Refusal, Verdict};
-use ring::Opening;
+use ring::{Opening, Taken};
 
 // The most bytes of an opening's line, and of a move's.
 const OPEN_ROOM: usize = 67;
@@ -35,17 +35,12 @@ pub fn put_filled(
     ensures { Printed (filled_room words.now) out.old at (filled words.now a b c d) out.new result }
 {
     let mut next = at;
-    let mut i: usize = 0;
-    while i < words.len() {
-        let byte = words[i];
-        i += 1;
-        if byte == b'#' {
+    for byte in words {
+        if *byte == b'#' {
             next = text::put_number(out, next, a);
-            a = b;
-            b = c;
-            c = d;
+            (a, b, c) = (b, c, d);
         } else {
-            next = buffer::put_byte(out, next, byte);
+            next = buffer::put_byte(out, next, *byte);
         }
     }
     next
@@ -56,7 +51,7 @@ pub fn put_refusal(out: &mut [u8], at: usize, words: &[u8], refusal: Refusal) ->
     requires { at + filled_room words.now ≤ length out.old }
     ensures { Printed (filled_room words.now) out.old at (filled words.now (number_of refusal) 0 0 0) out.new result }
 {
-    let number = refusals::refusal_number(refusal);
+    let number = u8::from(refusal);
     put_filled(out, at, words, number as u32, 0, 0, 0)
 }
 
@@ -65,15 +60,13 @@ pub fn put_move(out: &mut [u8], at: usize, m: Move) -> usize
     requires { at + move_room ≤ length out.old }
     ensures { Printed move_room out.old at (move_line m) out.new result }
 {
-    let from = m.from;
-    let to = m.to;
     put_filled(
         out,
         at,
         b"move # from # to #\n",
         m.number,
-        from.0 as u32,
-        to.0 as u32,
+        m.from.0 as u32,
+        m.to.0 as u32,
         0,
     )
 }
@@ -104,11 +97,13 @@ fn put_open_line(out: &mut [u8], at: usize, number: u32, answer: Opening) -> usi
     ensures { Printed open_room out.old at (open_line number answer) out.new result }
 {
     match answer {
-        Opening::Taken {
-            place,
-            moves,
-            looks,
-        } => put_filled(
+        Ok(
+            Taken {
+                place,
+                moves,
+                looks,
+            },
+        ) => put_filled(
             out,
             at,
             b"open # place # moves # looks #\n",
@@ -117,8 +112,8 @@ fn put_open_line(out: &mut [u8], at: usize, number: u32, answer: Opening) -> usi
             moves as u32,
             looks as u32,
         ),
-        Opening::Refused(refusal) => {
-            let reason = refusals::refusal_number(refusal);
+        Err(refusal) => {
+            let reason = u8::from(refusal);
             put_filled(out, at, b"open # refused #\n", number, reason as u32, 0, 0)
         }
     }
@@ -139,8 +134,8 @@ pub fn put_closing(out: &mut [u8], at: usize, number: u32, verdict: Verdict) -> 
     ensures { Printed close_room out.old at (close_line number verdict) out.new result }
 {
     match verdict {
-        Verdict::Granted => put_filled(out, at, b"close #\n", number, 0, 0, 0),
-        Verdict::Refused(refusal) => put_refusal(out, at, b"close refused #\n", refusal),
+        Ok(()) => put_filled(out, at, b"close #\n", number, 0, 0, 0),
+        Err(refusal) => put_refusal(out, at, b"close refused #\n", refusal),
     }
 }
 
@@ -150,7 +145,7 @@ pub fn put_ring(out: &mut [u8], at: usize, nodes: u8, wavelengths: u16, verdict:
     ensures { Printed ring_room out.old at (ring_line nodes wavelengths verdict) out.new result }
 {
     match verdict {
-        Verdict::Granted => put_filled(
+        Ok(()) => put_filled(
             out,
             at,
             b"ring # wavelengths #\n",
@@ -159,7 +154,7 @@ pub fn put_ring(out: &mut [u8], at: usize, nodes: u8, wavelengths: u16, verdict:
             0,
             0,
         ),
-        Verdict::Refused(refusal) => put_refusal(out, at, b"ring refused #\n", refusal),
+        Err(refusal) => put_refusal(out, at, b"ring refused #\n", refusal),
     }
 }
 

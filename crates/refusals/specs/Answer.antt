@@ -1,8 +1,8 @@
 -- 01: the number and the values of an answer, and the answer of a call by the reasons that 01 numbers. Assumes nothing.
 -- What every call promises of its answer.
-use Rattle.std.specs.Prelude.{ℕ, Bool, false, ◌||◌, List, [], ◌∷◌}
+use Rattle.std.specs.Prelude.{ℕ, Bool, false, ◌||◌, List, [], ◌∷◌, Ok, Err}
 use Rattle.basis.specs.Choice.{pick}
-use Rattle.refusals.specs.Refusal.{number_of, Verdict, granted, refused}
+use Rattle.refusals.specs.Refusal.{number_of, Verdict}
 
 pub record Answer : Type 0 where
   pub number : ℕ
@@ -18,8 +18,8 @@ done vs = record { number = 0; values = vs }
 
 -- a making, a closing, a reading and a load report answer with no value
 abbrev pub verdict_answer : Verdict → Answer
-verdict_answer granted = done []
-verdict_answer (refused r) = refusal (number_of r)
+verdict_answer (Ok _) = done []
+verdict_answer (Err r) = refusal (number_of r)
 
 -- a number of document 01, and whether its cause is there
 pub record Reason : Type 0 where

@@ -1,11 +1,13 @@
 -- 01, "By whom it can be caused", and 02, E3: the refusals and their numbers, and the first of several causes. Assumes nothing.
 -- What every call promises of its answer.
-use Rattle.std.specs.Prelude.{ℕ, Bool, List, [], ◌∷◌}
+use Rattle.std.specs.Prelude.{ℕ, Bool, List, [], ◌∷◌, Result, Ok, Err}
 use Rattle.basis.specs.Choice.{pick}
 pub use Rattle.refusals.specs.declared.Refusal.{Refusal}
 pub use Rattle.refusals.specs.declared.Refusal.TheVariants.{NodeCount, PortCount, PortSum, OffRing, SameNode, NumberLive, NoTransmitter, NoReceiver, NotLive, NoWavelength, NoDirection, ShortList, ShortBuffer, BrokenRule, CutShort, BadField, TrailingBytes, BrokenForm, NoSpacing, NoStart, OffPlan}
-pub use Rattle.refusals.specs.declared.Verdict.{Verdict}
-pub use Rattle.refusals.specs.declared.Verdict.TheVariants.{Granted as granted, Refused as refused}
+
+-- whether a request goes ahead, or why it is refused
+abbrev pub Verdict : Type 0
+Verdict = Result (Unit {0}) Refusal
 
 abbrev pub number_of : Refusal → ℕ
 -- the ring planner: N outside 3 to 64, or a port list not N long; some k_i above 64; K above 192
@@ -48,5 +50,5 @@ r if h = record { refusal = r; holds = h }
 
 -- the first cause that holds
 abbrev pub judged : List Cause → Verdict
-judged [] = granted
-judged (x ∷ xs) = pick x.holds (refused x.refusal) (judged xs)
+judged [] = Ok tt
+judged (x ∷ xs) = pick x.holds (Err x.refusal) (judged xs)

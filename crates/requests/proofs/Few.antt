@@ -12,8 +12,7 @@ use Rattle.basis.specs.Count.{weigh}
 use Rattle.basis.proofs.Arrays.{lent_counted}
 use Rattle.text.specs.Bytes.{bytes}
 use Rattle.text.specs.Number.{number}
-use Rattle.text.specs.declared.Number.{Number}
-use Rattle.text.specs.declared.Number.TheVariants.{Got, Missing}
+use Rattle.std.specs.Prelude.{Option, Some, None}
 use Rattle.text.proofs.Reading.{number_some}
 use Rattle.requests.specs.declared.Request.{Request}
 use Rattle.requests.specs.declared.Request.TheVariants.{Ring, Open, Close, Bad}
@@ -46,9 +45,9 @@ Few most Bad = Unit {0}
 
 -- each part of a definition keeps the bound
 module _ (most : ℕ) where
-  few_given : (n : Number) (f : ℕ → Line) → ((k : ℕ) → n ≡ Got k → Few most (f k).request) → Few most (given bad n f).request
-  few_given (Got k) f h = h k refl
-  few_given Missing f h = tt
+  few_given : (n : Option ℕ) (f : ℕ → Line) → ((k : ℕ) → n ≡ Some k → Few most (f k).request) → Few most (given bad n f).request
+  few_given (Some k) f h = h k refl
+  few_given None f h = tt
 
   few_pick : (t : Bool) (a b : Line) → Few most a.request → Few most b.request → Few most (pick t a b).request
   few_pick true a b p q = p

@@ -7,13 +7,11 @@ use lib.ListN.{length, drop, set, replicate, length-append, drop_of_length-le}
 use lib.Seq.{set_at, append_snoc}
 use Rattle.requests.specs.declared.Request.TheVariants.{Ring}
 use Rattle.requests.specs.declared.Line.{Line}
-use Rattle.words.specs.declared.Field.{Field}
-use Rattle.words.specs.declared.Field.TheVariants.{Read, Unread}
+use Rattle.std.specs.Prelude.{None}
 use Rattle.words.specs.Split.{other_words}
 use Rattle.requests.specs.Line.{longest_line, port_room, bad, ports_after, parse_ring}
 use Rattle.words.specs.Field.{Next, FieldAt}
 use Rattle.words.proofs.Split.{words_next}
-use Rattle.words.proofs.Fields.{read_next, read_small}
 use Rattle.words.proofs.Parse.{field_read}
 
 -- of a ring of n nodes count ports are read, up to position i
@@ -26,10 +24,10 @@ pub record Porting (b : List ℕ) (at n : ℕ) (ports : List ℕ) (count i : ℕ
   pub room : 2 * count ≤ i
 
 -- after the nodes there are none yet
-pub ports_start : (b : List ℕ) (at : ℕ) (r : Field) (n i : ℕ) → FieldAt (2 ^ 8) b at r → r ≡ Read n i → length b ≤ longest_line → Porting b at n (replicate port_room 0) 0 i
+pub ports_start : (b : List ℕ) (at n i : ℕ) → Next (2 ^ 8) b at n i → length b ≤ longest_line → Porting b at n (replicate port_room 0) 0 i
 unfolding parse_ring
-ports_start b at r n i h k s =
-    record { ks = []; is = sym (field_read Line bad 8 b at r h (λ n ws. ports_after n [] ws) _ n i k refl); counted = refl; stand = refl; short = s; room = omega arith }
+ports_start b at n i h s =
+    record { ks = []; is = sym (field_read Line bad 8 b at (λ n ws. ports_after n [] ws) _ n i h refl); counted = refl; stand = refl; short = s; room = omega arith }
 
 module _ (b : List ℕ) (at n : ℕ) (ports : List ℕ) (count i : ℕ) (q : Porting b at n ports count i) where
   pub ports_end : length b ≤ i → record { request = Ring n count; ports = ports } ≡ parse_ring (other_words (drop at b))
@@ -40,29 +38,25 @@ module _ (b : List ℕ) (at n : ℕ) (ports : List ℕ) (count i : ℕ) (q : Por
     pub ports_room : count < port_room
     ports_room = omega (arith, q.room, q.short)
 
-    module _ (r : Field) (k : FieldAt (2 ^ 8) b i r) where
-      pub no_port : (x : Line) → r ≡ Unread → x ≡ bad → x ≡ parse_ring (other_words (drop at b))
+    pub no_port : (x : Line) → FieldAt (2 ^ 8) b i None → x ≡ bad → x ≡ parse_ring (other_words (drop at b))
+    unfolding ports_after
+    no_port x k e = e ∙ sym (q.is ∙ rw (words_next b i h, k _ _ (words_next b i h)))
+
+    module _ (p end : ℕ) (here : Next (2 ^ 8) b i p end) where
+      pub ports_less : length b - end < length b - i
+      ports_less = omega (arith, here.ahead, here.within)
+
+      pub ports_next : Porting b at n (set ports count p) (count + 1) end
       unfolding ports_after
-      no_port x u e = e ∙ sym (q.is ∙ rw (words_next b i h, (rw u at k) _ _ (words_next b i h)))
+      ports_next =
+          let m : port_room - count ≡ suc (port_room - (count + 1)) = omega (arith, ports_room) in
+          record {
+            ks = q.ks ++ (p ∷ []);
+            is = q.is ∙ rw (here.is, here.value);
+            counted = omega (arith, length-append q.ks (p ∷ []), q.counted);
+            stand = rw (q.stand, m) (set_at q.ks 0 _ p count q.counted ∙ sym (append_snoc q.ks p _));
+            short = q.short;
+            room = omega (arith, q.room, here.ahead);
+          }
 
-      module _ (p end : ℕ) (e : r ≡ Read p end) where
-        here : Next (2 ^ 8) b i p end
-        here = read_next (2 ^ 8) b i r k p end e
-
-        pub ports_less : length b - end < length b - i
-        ports_less = omega (arith, here.ahead, here.within)
-
-        pub ports_next : Porting b at n (set ports count p) (count + 1) end
-        unfolding ports_after
-        ports_next =
-            let m : port_room - count ≡ suc (port_room - (count + 1)) = omega (arith, ports_room) in
-            record {
-              ks = q.ks ++ (p ∷ []);
-              is = q.is ∙ rw (here.is, here.value);
-              counted = omega (arith, length-append q.ks (p ∷ []), q.counted);
-              stand = rw (q.stand, m) (set_at q.ks 0 _ p count q.counted ∙ sym (append_snoc q.ks p _));
-              short = q.short;
-              room = omega (arith, q.room, here.ahead);
-            }
-
-pub ruleset porting = (read_small, ports_start, ports_end, ports_room, no_port, ports_less, ports_next)
+pub ruleset porting = (ports_start, ports_end, ports_room, no_port, ports_less, ports_next)

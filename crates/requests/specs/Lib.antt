@@ -1,3 +1,2 @@
 -- What a line asks for.
 pub mod Line
-pub mod Details

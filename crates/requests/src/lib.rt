@@ -3,13 +3,13 @@
 #![tactic(auto)]
 
 ghost use Rattle.std.specs.Prelude.{◌≡◌, ◌≤◌, length, drop};
+ghost use Rattle.std.specs.Option.{unwrap_or};
 ghost use Rattle.words.specs.Split.{other_words};
 ghost use Rattle.words.specs.Parse.{at_end};
 ghost use Rattle.requests.specs.Line.{longest_line, plain_line, bad, parse_ring, parse_open, parse_close, parse_line};
-ghost use Rattle.requests.specs.Details.{parse_details};
 
 use lightpath::Circuit;
-use words::{Field, MOST_U8, MOST_U16, MOST_U32};
+use words::{MOST_U8, MOST_U16, MOST_U32};
 
 // The longest line, in bytes without its line end.
 pub const LONGEST_LINE: usize = 256;
@@ -44,106 +44,89 @@ fn plain(request: Request) -> Line
 }
 
 // The request, where the word that ends at the position is the last.
-fn at_end(line: &[u8], at: usize, request: Request) -> Line
-    ensures { result ≡ at_end bad (other_words (drop at line.now)) (plain_line request) }
+fn at_end(line: &[u8], at: usize, request: Request) -> Option<Line>
+    ensures { unwrap_or result bad ≡ at_end bad (other_words (drop at line.now)) (plain_line request) }
 {
     if at < line.len() {
-        return plain(Request::Bad);
+        return None;
     }
-    plain(request)
+    Some(plain(request))
 }
 
 // `ring N k..`, after its first word.
-fn parse_ring(line: &[u8], at: usize) -> Line
+fn parse_ring(line: &[u8], at: usize) -> Option<Line>
     requires { length line.now ≤ longest_line }
-    ensures { result ≡ parse_ring (other_words (drop at line.now)) }
+    ensures { unwrap_or result bad ≡ parse_ring (other_words (drop at line.now)) }
 {
-    let Field::Read(nodes, start) = words::read_field(line, at, MOST_U8) else {
-        return plain(Request::Bad);
-    };
-    let mut ports = [0u8; PORT_ROOM];
-    let mut count: usize = 0;
-    let mut next = start;
+    let (nodes, mut next) = words::read_field(line, at, MOST_U8)?;
+    let mut ports = [0; PORT_ROOM];
+    let mut count = 0;
+    // From where each word ends.
     while next < line.len() {
-        let Field::Read(port, end) = words::read_field(line, next, MOST_U8) else {
-            return plain(Request::Bad);
-        };
+        let (port, end) = words::read_field(line, next, MOST_U8)?;
         ports[count] = port as u8;
         count += 1;
         next = end;
     }
     let nodes = nodes as u8;
-    Line {
+    Some(Line {
         request: Request::Ring { nodes, count },
         ports,
-    }
-}
-
-// The last two numbers of an opening: the remark and the account.
-fn parse_details(line: &[u8], at: usize, number: u32, source: u8, destination: u8) -> Line
-    ensures { result ≡ parse_details number source destination (other_words (drop at line.now)) }
-{
-    let Field::Read(remark, a) = words::read_field(line, at, MOST_U16) else {
-        return plain(Request::Bad);
-    };
-    let Field::Read(account, end) = words::read_field(line, a, MOST_U32) else {
-        return plain(Request::Bad);
-    };
-    let remark = remark as u16;
-    let account = account as u32;
-    let circuit = Circuit {
-        number,
-        source,
-        destination,
-        remark,
-        account,
-    };
-    at_end(line, end, Request::Open { circuit })
+    })
 }
 
 // `open number source destination remark account`, after its first word.
-fn parse_open(line: &[u8], at: usize) -> Line
-    ensures { result ≡ parse_open (other_words (drop at line.now)) }
+fn parse_open(line: &[u8], at: usize) -> Option<Line>
+    ensures { unwrap_or result bad ≡ parse_open (other_words (drop at line.now)) }
 {
-    let Field::Read(number, a) = words::read_field(line, at, MOST_U32) else {
-        return plain(Request::Bad);
+    let (number, at) = words::read_field(line, at, MOST_U32)?;
+    let (source, at) = words::read_field(line, at, MOST_U8)?;
+    let (destination, at) = words::read_field(line, at, MOST_U8)?;
+    let (remark, at) = words::read_field(line, at, MOST_U16)?;
+    let (account, at) = words::read_field(line, at, MOST_U32)?;
+    let circuit = Circuit {
+        number: number as u32,
+        source: source as u8,
+        destination: destination as u8,
+        remark: remark as u16,
+        account: account as u32,
     };
-    let Field::Read(source, b) = words::read_field(line, a, MOST_U8) else {
-        return plain(Request::Bad);
-    };
-    let Field::Read(destination, c) = words::read_field(line, b, MOST_U8) else {
-        return plain(Request::Bad);
-    };
-    let number = number as u32;
-    let source = source as u8;
-    let destination = destination as u8;
-    parse_details(line, c, number, source, destination)
+    at_end(line, at, Request::Open { circuit })
 }
 
 // `close number`, after its first word.
-fn parse_close(line: &[u8], at: usize) -> Line
-    ensures { result ≡ parse_close (other_words (drop at line.now)) }
+fn parse_close(line: &[u8], at: usize) -> Option<Line>
+    ensures { unwrap_or result bad ≡ parse_close (other_words (drop at line.now)) }
 {
-    let Field::Read(number, end) = words::read_field(line, at, MOST_U32) else {
-        return plain(Request::Bad);
-    };
+    let (number, at) = words::read_field(line, at, MOST_U32)?;
     let number = number as u32;
-    at_end(line, end, Request::Close { number })
+    at_end(line, at, Request::Close { number })
 }
 
-// The request that a line is, without its line end. The first words stand in the order of the arms.
+// The request that a line is, or that it is none.
+fn parse_request(line: &[u8]) -> Option<Line>
+    ensures { unwrap_or result bad ≡ parse_line line.now }
+{
+    if LONGEST_LINE < line.len() {
+        return None;
+    }
+    let end = words::word_end(line, 0);
+    let word = &line[..end];
+    if word == b"ring".as_slice() {
+        return parse_ring(line, end);
+    }
+    if word == b"open".as_slice() {
+        return parse_open(line, end);
+    }
+    if word == b"close".as_slice() {
+        return parse_close(line, end);
+    }
+    None
+}
+
+// The request that a line is, without its line end.
 pub fn parse_line(line: &[u8]) -> Line
     ensures { result ≡ parse_line line.now }
 {
-    if LONGEST_LINE < line.len() {
-        return plain(Request::Bad);
-    }
-    let end = words::word_end(line, 0);
-    let kind = words::word_index(&line[..end], b"ring open close");
-    match kind {
-        0 => parse_ring(line, end),
-        1 => parse_open(line, end),
-        2 => parse_close(line, end),
-        _ => plain(Request::Bad),
-    }
+    parse_request(line).unwrap_or(plain(Request::Bad))
 }

@@ -14,12 +14,12 @@ use Rattle.ports.specs.Ports.{ports_at}
 use Rattle.ports_used.specs.PortsUsed.{sends, receives}
 use Rattle.rules.specs.Allowable.{Allowable}
 use Rattle.refusals.specs.Refusal.{judged}
-use Rattle.refusals.specs.declared.Verdict.TheVariants.{Granted as granted}
 use Rattle.ring.specs.Table.{RingTable}
 use Rattle.ring.specs.Opening.{request_causes, open_causes}
 use Rattle.refusals.proofs.Judged.{none_holds}
 use Rattle.refusals.proofs.Reasons.{Agree}
 use Rattle.ring.specs.Demand3.{reasons}
+use Rattle.std.specs.Prelude.{Ok}
 
 -- a node off the ring, by each of its two bounds
 off_ring : (a b c d : Bool) → not ((a && b) && (c && d)) ≡ (not a || not b || not c || not d)
@@ -54,7 +54,7 @@ agree t c n = (
 )
 
 -- then the ports permit it: the only place that knows where each cause stands
-pub allowable : (t : RingTable) (c : Circuit) → judged (request_causes t c) ≡ granted → Allowable t.nodes t.ports t.channels c
+pub allowable : (t : RingTable) (c : Circuit) → judged (request_causes t c) ≡ Ok tt → Allowable t.nodes t.ports t.channels c
 allowable t c e =
     let h = none_holds (request_causes t c) e in
     record {

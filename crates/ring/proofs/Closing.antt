@@ -14,11 +14,11 @@ use Rattle.channels.specs.Closing.{closed}
 use Rattle.steps.specs.Kept.{Kept}
 use Rattle.steps.proofs.Closing.{closes, close_there}
 use Rattle.refusals.specs.declared.Refusal.TheVariants.{NotLive, BrokenRule}
-use Rattle.refusals.specs.declared.Verdict.TheVariants.{Granted as granted, Refused as refused}
 use Rattle.refusals.specs.Answer.{refusal, verdict_answer}
 use Rattle.ring.specs.Table.{RingTable, meets_rules, with_channels}
 use Rattle.ring.specs.Closing.{Answered, closed_by, close_of}
 use Rattle.ring.proofs.TableRules.{table_rules, table_limits}
+use Rattle.std.specs.Prelude.{Ok, Err}
 
 -- from the table t to the one answered the circuit of number n is taken off, and nothing else is changed
 pub record TakenOff (t : RingTable) (n : ℕ) (o : Answered) : Type 0 where
@@ -36,18 +36,18 @@ pub record NotTaken (t : RingTable) (n : ℕ) (o : Answered) : Type 0 where
   pub same : o.table ≡ t
 
 -- a table that was found to break a rule is met by 22
-pub close_unmet : (t : RingTable) (n : ℕ) (r : Bool) → r ≡ meets_rules t → not r ≡ true → closed_by t n (refused BrokenRule) ≡ close_of t n
+pub close_unmet : (t : RingTable) (n : ℕ) (r : Bool) → r ≡ meets_rules t → not r ≡ true → closed_by t n (Err BrokenRule) ≡ close_of t n
 unfolding close_of
 close_unmet t n r e h = rw (← e, not-true r h)
 
 module _ (t : RingTable) (n : ℕ) (rules : meets_rules t ≡ true) where
   -- a live number is closed
-  close_live : live t.channels n ≡ true → close_of t n ≡ closed_by t n granted
+  close_live : live t.channels n ≡ true → close_of t n ≡ closed_by t n (Ok tt)
   unfolding close_of
   close_live l = rw (rules, l)
 
   -- another is refused by 15
-  close_dead : live t.channels n ≡ false → close_of t n ≡ closed_by t n (refused NotLive)
+  close_dead : live t.channels n ≡ false → close_of t n ≡ closed_by t n (Err NotLive)
   unfolding close_of
   close_dead d = rw (rules, d)
 
@@ -57,11 +57,11 @@ module _ (t : RingTable) (n : ℕ) (rules : meets_rules t ≡ true) where
 
   -- a number that was found is closed
   pub close_found : (p : ℕ) (chs : Channels) → p ≡ where_is t.channels n → p < place_count → chs ≡ closed t.channels n
-      → record { table = with_channels t chs; verdict = granted } ≡ close_of t n
+      → record { table = with_channels t chs; verdict = Ok tt } ≡ close_of t n
   close_found p chs e h k = rw k (sym (close_live (placed ∙ lt-ltb (where_is t.channels n) place_count (rw e at h))))
 
   -- one that was not is refused
-  pub close_missed : (p : ℕ) → p ≡ where_is t.channels n → place_count ≤ p → closed_by t n (refused NotLive) ≡ close_of t n
+  pub close_missed : (p : ℕ) → p ≡ where_is t.channels n → place_count ≤ p → closed_by t n (Err NotLive) ≡ close_of t n
   close_missed p e h = sym (close_dead (placed ∙ le-ltb (where_is t.channels n) place_count (rw e at h)))
 
   -- what the closing of the places keeps

@@ -22,11 +22,9 @@ use Rattle.steps.proofs.Looks.{plan_looks}
 use Rattle.steps.proofs.BothWays.{return_stays}
 use Rattle.survey.specs.Survey.{survey_of}
 use Rattle.survey.specs.declared.Survey.{Survey}
-use Rattle.refusals.specs.Refusal.{Cause, ◌if◌, judged}
+use Rattle.refusals.specs.Refusal.{Cause, ◌if◌, judged, Verdict}
 use Rattle.refusals.specs.declared.Refusal.{Refusal}
 use Rattle.refusals.specs.declared.Refusal.TheVariants.{NumberLive, NoTransmitter, NoReceiver, ShortList, BrokenRule}
-use Rattle.refusals.specs.declared.Verdict.{Verdict}
-use Rattle.refusals.specs.declared.Verdict.TheVariants.{Granted as granted, Refused as refused}
 use Rattle.refusals.specs.Answer.{Answer}
 use Rattle.ring.specs.Table.{RingTable, meets_rules}
 use Rattle.causes.specs.Causes.{named_causes}
@@ -36,6 +34,7 @@ use Rattle.ring.proofs.TableRules.{table_limits}
 use Rattle.ring.proofs.Placing.{placing_ready, placing_keeps}
 use Rattle.refusals.proofs.Judged.{granted_rest, judged_past, judged_stop}
 use Rattle.ring.proofs.Causes.{allowable}
+use Rattle.std.specs.Prelude.{Ok, Err}
 
 -- a table that was found to break a rule is met by 22
 pub decide_unmet : (t : RingTable) (c : Circuit) (n : ℕ) (r : Bool) (d : Decision) → r ≡ meets_rules t → not r ≡ true
@@ -54,15 +53,15 @@ module _ (t : RingTable) (c : Circuit) (n : ℕ) (rules : meets_rules t ≡ true
   named = (ShortList if ltb n least_records) ∷ named_causes t.nodes c
 
   -- a request that they meet is refused
-  pub decide_refused : (v : Verdict) (r : Refusal) (d : Decision) → v ≡ judged named → v ≡ refused r → d ≡ refusing t r → d ≡ decide_of t c n
-  decide_refused v r d e h k = k ∙ sym (decided (refused r) (judged_stop named (used_causes t c) r (sym e ∙ h)))
+  pub decide_refused : (v : Verdict) (r : Refusal) (d : Decision) → v ≡ judged named → v ≡ Err r → d ≡ refusing t r → d ≡ decide_of t c n
+  decide_refused v r d e h k = k ∙ sym (decided (Err r) (judged_stop named (used_causes t c) r (sym e ∙ h)))
 
   -- and any other goes by what is in use
-  pub decide_granted : (v : Verdict) (d : Decision) → v ≡ judged named → v ≡ granted → d ≡ decided_by t c (judged (used_causes t c)) → d ≡ decide_of t c n
+  pub decide_granted : (v : Verdict) (d : Decision) → v ≡ judged named → v ≡ Ok tt → d ≡ decided_by t c (judged (used_causes t c)) → d ≡ decide_of t c n
   decide_granted v d e h k = k ∙ sym (decided (judged (used_causes t c)) (judged_past named (used_causes t c) (sym e ∙ h)))
 
   -- a request that no cause meets is one that the ports permit
-  pub permits : judged (open_causes t c n) ≡ granted → Allowable t.nodes t.ports t.channels c
+  pub permits : judged (open_causes t c n) ≡ Ok tt → Allowable t.nodes t.ports t.channels c
   permits e = allowable t c (granted_rest (ShortList if ltb n least_records) (request_causes t c) e)
 
   -- the pair that step 3 finds
@@ -70,12 +69,12 @@ module _ (t : RingTable) (c : Circuit) (n : ℕ) (rules : meets_rules t ≡ true
   pair = found_pair (limit_of t.ports) t.channels c
 
   -- so the table is ready for its steps
-  open_ready : judged (open_causes t c n) ≡ granted → Ready t.nodes (limit_of t.ports) t.channels c
+  open_ready : judged (open_causes t c n) ≡ Ok tt → Ready t.nodes (limit_of t.ports) t.channels c
   open_ready e = placing_ready t rules c (permits e) (limit_of t.ports) refl
 
   -- 02, E1: "the lower place stays": where step 3 of an opening finds a pair whose hops total N, its two circuits are put together at the
   -- lower place
-  pub open_return : judged (open_causes t c n) ≡ granted
+  pub open_return : judged (open_causes t c n) ≡ Ok tt
       → limit_of t.ports ≤ join_place t.nodes (limit_of t.ports) t.channels c
       → limit_of t.ports ≤ unlit_place t.nodes (limit_of t.ports) t.channels c
       → hops t.nodes pair.0.circuit + hops t.nodes pair.1.circuit ≡ t.nodes
@@ -86,7 +85,7 @@ module _ (t : RingTable) (c : Circuit) (n : ℕ) (rules : meets_rules t ≡ true
       (r.0, r.2)
 
   -- and they serve it
-  pub serves : judged (open_causes t c n) ≡ granted
+  pub serves : judged (open_causes t c n) ≡ Ok tt
       → PlanKeeps t.nodes t.ports t.channels c (placing t c).opened.table.channels (planned t c).taken (planned t c).moves
   serves e = placing_keeps t rules c (permits e)
 
@@ -95,8 +94,8 @@ module _ (t : RingTable) (c : Circuit) (n : ℕ) (rules : meets_rules t ≡ true
   open_rules = go (judged (open_causes t c n)) refl
     where
       go : (v : Verdict) → judged (open_causes t c n) ≡ v → meets_rules (decide_of t c n).opened.table ≡ true
-      go granted e = ap (λ d. meets_rules d.opened.table) (decided granted e) ∙ (serves e).kept.rules
-      go (refused r) e = ap (λ d. meets_rules d.opened.table) (decided (refused r) e) ∙ rules
+      go (Ok _) e = ap (λ d. meets_rules d.opened.table) (decided (Ok tt) e) ∙ (serves e).kept.rules
+      go (Err r) e = ap (λ d. meets_rules d.opened.table) (decided (Err r) e) ∙ rules
 
   -- 01: the looks that an opening answers are "never above 8,256"
   pub open_looks : (p k looks : ℕ) → opening_answer (decide_of t c n).opened.answer ≡ record { number = 0; values = p ∷ k ∷ looks ∷ [] } → looks ≤ 8256
@@ -107,12 +106,12 @@ module _ (t : RingTable) (c : Circuit) (n : ℕ) (rules : meets_rules t ≡ true
       third v e = ap (λ (a : Answer). get_or a.values 2 0) (rw (decided v e) at h)
 
       go : (v : Verdict) → judged (open_causes t c n) ≡ v → looks ≤ 8256
-      go granted e = rw (← third granted e) (plan_looks t.nodes (limit_of t.ports) t.channels c (open_ready e))
-      go (refused r) e = omega (arith, third (refused r) e)
+      go (Ok _) e = rw (← third (Ok tt) e) (plan_looks t.nodes (limit_of t.ports) t.channels c (open_ready e))
+      go (Err r) e = omega (arith, third (Err r) e)
 
 -- what a request names is in order where the first causes do not meet it
-pub named_granted : (N : ℕ) (c : Circuit) (n : ℕ) (v : Verdict) → v ≡ judged ((ShortList if ltb n least_records) ∷ named_causes N c) → v ≡ granted
-    → judged (named_causes N c) ≡ granted
+pub named_granted : (N : ℕ) (c : Circuit) (n : ℕ) (v : Verdict) → v ≡ judged ((ShortList if ltb n least_records) ∷ named_causes N c) → v ≡ Ok tt
+    → judged (named_causes N c) ≡ Ok tt
 named_granted N c n v e h = granted_rest (ShortList if ltb n least_records) (named_causes N c) (sym e ∙ h)
 
 -- a request that names two nodes of the ring, by the survey v of the places below the limit m
@@ -127,14 +126,14 @@ module _ (t : RingTable) (c : Circuit) (m : ℕ) (v : Survey) (seen : v ≡ surv
   pub in_use : w ≡ judged (used_causes t c)
   in_use = rw seen at is
 
-  pub used_refused : (r : Refusal) (d : Decision) → w ≡ refused r → d ≡ refusing t r → d ≡ decided_by t c (judged (used_causes t c))
+  pub used_refused : (r : Refusal) (d : Decision) → w ≡ Err r → d ≡ refusing t r → d ≡ decided_by t c (judged (used_causes t c))
   used_refused r d h k = rw (← in_use, h) k
 
-  pub used_granted : (d : Decision) → w ≡ granted → d ≡ placing t c → d ≡ decided_by t c (judged (used_causes t c))
+  pub used_granted : (d : Decision) → w ≡ Ok tt → d ≡ placing t c → d ≡ decided_by t c (judged (used_causes t c))
   used_granted d h k = rw (← in_use, h) k
 
   -- one that is granted is one that the ports permit
-  pub used_permits : judged (named_causes t.nodes c) ≡ granted → w ≡ granted → Allowable t.nodes t.ports t.channels c
+  pub used_permits : judged (named_causes t.nodes c) ≡ Ok tt → w ≡ Ok tt → Allowable t.nodes t.ports t.channels c
   used_permits named h = allowable t c (judged_past (named_causes t.nodes c) (used_causes t c) named ∙ sym in_use ∙ h)
 
 -- for `search (rules, deciding)`

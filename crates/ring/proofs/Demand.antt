@@ -20,14 +20,12 @@ use Rattle.moves.proofs.Listed.{listed_most}
 use Rattle.moves.proofs.Front.{length_fronted, take_fronted, drop_fronted, fronted_none}
 use Rattle.rules.proofs.Rules.{Rules, rules_hold}
 use Rattle.steps.proofs.Chain.{kept_found}
-use Rattle.refusals.specs.Refusal.{number_of, judged}
+use Rattle.refusals.specs.Refusal.{number_of, judged, Verdict}
 use Rattle.refusals.specs.declared.Refusal.{Refusal}
-use Rattle.refusals.specs.declared.Verdict.{Verdict}
-use Rattle.refusals.specs.declared.Verdict.TheVariants.{Granted as granted, Refused as refused}
 use Rattle.refusals.specs.Answer.{refusal, some_given, first_number, answer_by}
 use Rattle.refusals.proofs.Reasons.{none_given, some_given_lem}
 use Rattle.ring.specs.Table.{RingTable, meets_rules, with_channels}
-use Rattle.ring.specs.Opening.{taken, Opened, Decision, open_causes, planned, placing, decided_by, decide_of, open_of, lent_after}
+use Rattle.ring.specs.Opening.{Opened, Decision, open_causes, planned, placing, decided_by, decide_of, open_of, lent_after}
 use Rattle.ring.specs.Answer.{opening_answer}
 use Rattle.ring.specs.Demand3.{reasons, Refused3, Served3, ServedBy, Demand3, moves_in, Demand3Lent}
 use Rattle.ring.specs.Numbers.{open_reasons, open_values}
@@ -35,6 +33,7 @@ use Rattle.refusals.proofs.Judged.{none_holds}
 use Rattle.ring.proofs.Causes.{agree}
 use Rattle.ring.proofs.Numbers.{open_numbers}
 use Rattle.ring.proofs.Deciding.{decided, serves}
+use Rattle.std.specs.Prelude.{Ok, Err}
 
 -- the places after a circuit was placed
 abbrev after : RingTable → Circuit → Channels
@@ -42,7 +41,7 @@ after t c = (placing t c).opened.table.channels
 
 module _ (t : RingTable) (c : Circuit) (n : ℕ) (rules : meets_rules t ≡ true) where
   -- a request that no cause meets
-  module _ (g : judged (open_causes t c n) ≡ granted) where
+  module _ (g : judged (open_causes t c n) ≡ Ok tt) where
     -- the places after it meet the rules
     again : Rules t.nodes t.ports (after t c)
     again = rules_hold t.nodes t.ports (after t c) (serves t c n rules g).kept.rules
@@ -85,14 +84,14 @@ module _ (t : RingTable) (c : Circuit) (n : ℕ) (rules : meets_rules t ≡ true
     -- which are the answer's
     serve : ServedBy t c (decide_of t c n).opened (listed (decide_of t c n).moves)
     serve =
-        subst (λ (d : Decision). ServedBy t c d.opened (listed d.moves)) (sym (decided t c n rules granted g))
+        subst (λ (d : Decision). ServedBy t c d.opened (listed d.moves)) (sym (decided t c n rules (Ok tt) g))
         ((planned t c).taken, length (planned t c).moves, (planned t c).looks, refl, served)
 
   -- a request that a cause meets is refused by the number of the first
-  turned : some_given (reasons t c n) ≡ true → (r : Refusal) × (decide_of t c n ≡ decided_by t c (refused r)) × (number_of r ≡ first_number (reasons t c n))
+  turned : some_given (reasons t c n) ≡ true → (r : Refusal) × (decide_of t c n ≡ decided_by t c (Err r)) × (number_of r ≡ first_number (reasons t c n))
   turned h =
       let x = some_given_lem (open_causes t c n) (reasons t c n) (agree t c n) h in
-      (x.0, decided t c n rules (refused x.0) x.1, x.2)
+      (x.0, decided t c n rules (Err x.0) x.1, x.2)
 
   -- with nothing changed
   refuse : some_given (reasons t c n) ≡ true → Refused3 t c n (decide_of t c n).opened (listed (decide_of t c n).moves)
@@ -105,7 +104,7 @@ module _ (t : RingTable) (c : Circuit) (n : ℕ) (rules : meets_rules t ≡ true
       }
 
   -- where no reason is given no cause is met
-  granted_none : some_given (reasons t c n) ≡ false → judged (open_causes t c n) ≡ granted
+  granted_none : some_given (reasons t c n) ≡ false → judged (open_causes t c n) ≡ Ok tt
   granted_none h = none_given (open_causes t c n) (reasons t c n) (agree t c n) h
 
   -- an opening that is served leaves one circuit more
@@ -126,7 +125,7 @@ module _ (t : RingTable) (c : Circuit) (n : ℕ) (rules : meets_rules t ≡ true
 
   -- Demand 3: the place, the moves and the looks answered are those of the plan, and demand 3 holds of that place, those moves and their
   -- records
-  pub answered : (p : Place) (k looks : ℕ) → (decide_of t c n).opened.answer ≡ taken p k looks
+  pub answered : (p : Place) (k looks : ℕ) → (decide_of t c n).opened.answer ≡ Ok (record { place = p; moves = k; looks = looks })
       → Served3 t c (decide_of t c n).opened.table p.0 k (listed (decide_of t c n).moves) × (p.0 ∷ k ∷ looks ∷ [] ≡ open_values t c)
   answered p k looks h = go (judged (open_causes t c n)) refl
     where
@@ -136,10 +135,10 @@ module _ (t : RingTable) (c : Circuit) (n : ℕ) (rules : meets_rules t ≡ true
 
       go : (v : Verdict) → judged (open_causes t c n) ≡ v
           → Served3 t c (decide_of t c n).opened.table p.0 k (listed (decide_of t c n).moves) × (p.0 ∷ k ∷ looks ∷ [] ≡ open_values t c)
-      go granted e =
-          let is = told granted e in
-          (rw (← ap (λ l. get_or l 0 0) is, ← ap (λ l. get_or l 1 0) is, decided t c n rules granted e) (served e), sym is)
-      go (refused r) e = absurd (omega (arith, ap length (told (refused r) e)))
+      go (Ok tt) e =
+          let is = told (Ok tt) e in
+          (rw (← ap (λ l. get_or l 0 0) is, ← ap (λ l. get_or l 1 0) is, decided t c n rules (Ok tt) e) (served e), sym is)
+      go (Err r) e = absurd (omega (arith, ap length (told (Err r) e)))
 
 -- a decision answers by the numbers; and meets it
 abbrev pub Numbered : RingTable → Circuit → ℕ → Decision → Type 0
@@ -167,13 +166,13 @@ module _ (t : RingTable) (c : Circuit) (lent : List Move) (rules : meets_rules t
   writes = go (judged (open_causes t c (length lent))) refl
     where
       go : (v : Verdict) → judged (open_causes t c (length lent)) ≡ v → Writes (decide_of t c (length lent))
-      go granted g =
+      go (Ok tt) g =
           let ms = moves_of (planned t c).moves in
           let same = moves t c (length lent) rules g in
-          subst Writes (sym (decided t c (length lent) rules granted g))
+          subst Writes (sym (decided t c (length lent) rules (Ok tt) g))
           (subst (λ l. (take (length l) (written lent ms) ≡ listed ms) × (drop (length l) (written lent ms) ≡ drop (length l) lent)) same
           (take_fronted _ (listed ms) lent (ltb-false (length lent) 3 (none_holds (open_causes t c (length lent)) g).0), drop_fronted _ (listed ms) lent))
-      go (refused r) g = subst Writes (sym (decided t c (length lent) rules (refused r) g)) (refl, fronted_none _ lent)
+      go (Err r) g = subst Writes (sym (decided t c (length lent) rules (Err r) g)) (refl, fronted_none _ lent)
 
   -- demand 3 of the list
   demand3_lent : Demand3Lent t c lent (open_of t c lent) (lent_after t c lent)

@@ -13,20 +13,19 @@ use Rattle.channels.specs.Channels.{Channels, unlit_channels}
 use Rattle.ports.specs.Ports.{each_at_most}
 use Rattle.rules.proofs.Rules.{rules_test}
 use Rattle.rules.proofs.Fresh.{fresh_rules}
-use Rattle.refusals.specs.Refusal.{judged}
+use Rattle.refusals.specs.Refusal.{judged, Verdict}
 use Rattle.refusals.specs.declared.Refusal.{Refusal}
 use Rattle.refusals.specs.declared.Refusal.TheVariants.{NodeCount}
-use Rattle.refusals.specs.declared.Verdict.{Verdict}
-use Rattle.refusals.specs.declared.Verdict.TheVariants.{Granted as granted, Refused as refused}
 use Rattle.ring.specs.Table.{RingTable, meets_rules, blank_table, fresh_table}
 use Rattle.ring.specs.Making.{made_by, make_of}
 use Rattle.causes.specs.Causes.{port_causes, make_causes}
 use Rattle.refusals.proofs.Judged.{none_holds}
 use Rattle.causes.proofs.Fields.{fields_judged}
+use Rattle.std.specs.Prelude.{Ok, Err}
 
 module _ (N : ℕ) (ks : List ℕ) (r : Bool) (e : r ≡ (leb 3 N && leb N 64 && eqb (length ks) N)) where
   -- a number of nodes that was found not to hold is refused by 1
-  pub make_count : (b : RingTable) → not r ≡ true → b ≡ blank_table → record { table = b; verdict = refused NodeCount } ≡ make_of N ks
+  pub make_count : (b : RingTable) → not r ≡ true → b ≡ blank_table → record { table = b; verdict = Err NodeCount } ≡ make_of N ks
   unfolding make_of
   make_count b h k = rw (k, ← e, not-true r h)
 
@@ -44,20 +43,20 @@ module _ (N : ℕ) (ks : List ℕ) (r : Bool) (e : r ≡ (leb 3 N && leb N 64 &&
       make_ports w k = rw (← e, not-false r h, ← fields_judged ks (64 - length ks), ← f, ← g, k)
 
       -- a ring is made
-      pub make_granted : (chs : Channels) → v ≡ granted → chs ≡ unlit_channels
-          → record { table = record { nodes = N; ports = fields; channels = chs }; verdict = granted } ≡ make_of N ks
-      make_granted chs k u = rw (f, u) (sym (make_ports granted k))
+      pub make_granted : (chs : Channels) → v ≡ Ok tt → chs ≡ unlit_channels
+          → record { table = record { nodes = N; ports = fields; channels = chs }; verdict = Ok tt } ≡ make_of N ks
+      make_granted chs k u = rw (f, u) (sym (make_ports (Ok tt) k))
 
       -- or refused, with the blank table
-      pub make_refused : (b : RingTable) (x : Refusal) → v ≡ refused x → b ≡ blank_table
-          → record { table = b; verdict = refused x } ≡ make_of N ks
-      make_refused b x k u = rw u (sym (make_ports (refused x) k))
+      pub make_refused : (b : RingTable) (x : Refusal) → v ≡ Err x → b ≡ blank_table
+          → record { table = b; verdict = Err x } ≡ make_of N ks
+      make_refused b x k u = rw u (sym (make_ports (Err x) k))
 
 -- for `search (rules, making)`
 pub ruleset making = (make_count, count_most, make_granted, make_refused)
 
 -- within the limits, a fresh table meets the rules
-fresh_meets : (N : ℕ) (ks : List ℕ) → judged (make_causes N ks) ≡ granted → meets_rules (fresh_table N ks) ≡ true
+fresh_meets : (N : ℕ) (ks : List ℕ) → judged (make_causes N ks) ≡ Ok tt → meets_rules (fresh_table N ks) ≡ true
 fresh_meets N ks g =
     let h = none_holds (make_causes N ks) g in
     let b = not-false (leb 3 N && leb N 64 && eqb (length ks) N) h.0 in
@@ -67,10 +66,10 @@ fresh_meets N ks g =
     (leb-true (total ks) 192 (not-false (leb (total ks) 192) h.1.1.0)))
 
 -- Law: a ring that is made meets the ring rules
-pub make_rules : (N : ℕ) (ks : List ℕ) → (make_of N ks).verdict ≡ granted → meets_rules (make_of N ks).table ≡ true
+pub make_rules : (N : ℕ) (ks : List ℕ) → (make_of N ks).verdict ≡ Ok tt → meets_rules (make_of N ks).table ≡ true
 unfolding make_of
 make_rules N ks e = go (judged (make_causes N ks)) refl e
   where
-    go : (v : Verdict) → judged (make_causes N ks) ≡ v → (made_by N ks v).verdict ≡ granted → meets_rules (made_by N ks v).table ≡ true
-    go granted g e = fresh_meets N ks g
-    go (refused r) g e = cc
+    go : (v : Verdict) → judged (make_causes N ks) ≡ v → (made_by N ks v).verdict ≡ Ok tt → meets_rules (made_by N ks v).table ≡ true
+    go (Ok _) g e = fresh_meets N ks g
+    go (Err r) g e = cc

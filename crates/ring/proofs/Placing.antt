@@ -1,5 +1,6 @@
 -- Placing a circuit with nothing asked, in a table that meets the ring rules and whose ports permit it: the steps serve it, and what that keeps.
 -- Assumes nothing.
+use Rattle.std.specs.Prelude.{Ok}
 use Prim.Native.Nat.{ℕ, ◌≤◌, ◌<◌}
 use mathlib.Core.Path.{◌≡◌}
 use mathlib.Core.Bool.{true}
@@ -20,13 +21,13 @@ use Rattle.plan.specs.Planned.{Plans}
 use Rattle.plan.specs.declared.Planned.{Planned}
 use Rattle.plan.proofs.ByValue.{planned_changes, planned_count}
 use Rattle.ring.specs.Table.{RingTable, meets_rules, with_channels}
-use Rattle.ring.specs.Opening.{taken, planned, placing}
+use Rattle.ring.specs.Opening.{planned, placing}
 use Rattle.ring.proofs.TableRules.{table_rules, table_limits, some_nodes}
 
 -- a plan by value, below the limit, is carried out
 pub carried_out_lem : (t : RingTable) (c : Circuit) (m : ℕ) (p : Planned) (chs : Channels) → Plans (plan_of t.nodes m t.channels c) p
     → chs ≡ puts (in_order p.changes) t.channels → m ≡ limit_of t.ports
-    → record { opened = record { table = with_channels t chs; answer = taken p.place p.moves.count p.looks }; moves = p.moves } ≡ placing t c
+    → record { opened = record { table = with_channels t chs; answer = Ok (record { place = p.place; moves = p.moves.count; looks = p.looks }) }; moves = p.moves } ≡ placing t c
 carried_out_lem t c m p chs e f l =
     rw (← l, f, planned_changes t.nodes m t.channels c p e.is, ← planned_count t.nodes m t.channels c p e.is, e.is)
 

@@ -34,15 +34,15 @@ use Rattle.rounds.specs.Tidied.{tidied_places}
 use Rattle.rounds.specs.declared.TidiedPlaces.{TidiedPlaces}
 use Rattle.refusals.specs.declared.Refusal.{Refusal}
 use Rattle.refusals.specs.declared.Refusal.TheVariants.{ShortList, BrokenRule}
-use Rattle.refusals.specs.declared.Verdict.TheVariants.{Granted as granted, Refused as refused}
 use Rattle.refusals.specs.Answer.{answer_by}
 use Rattle.refusals.proofs.Reasons.{in_numbers_lem}
 use Rattle.ring.specs.Table.{RingTable, meets_rules, with_channels}
-use Rattle.ring.specs.Tidying.{Tidied, TidyDecision, tidied, not_tidied, tidy_causes, rounds_of, tidying_by, decide_tidy_of, tidy_of, tidy_lent_after}
+use Rattle.ring.specs.Tidying.{Tidied, TidyDecision, tidy_causes, rounds_of, tidying_by, decide_tidy_of, tidy_of, tidy_lent_after}
 use Rattle.ring.specs.Answer.{tidying_answer}
 use Rattle.ring.specs.Numbers.{tidy_reasons, tidy_values}
 use Rattle.ring.specs.Tidies.{Tidies, TidiesBy, TidiesLent}
 use Rattle.ring.proofs.TableRules.{table_rules, table_limits, some_nodes}
+use Rattle.std.specs.Prelude.{Ok, Err}
 
 -- tidying: 22, 20
 pub tidy_numbers : (t : RingTable) (n : ℕ) → tidying_answer (decide_tidy_of t n).tidied.answer ≡ answer_by (tidy_reasons t n) (tidy_values t)
@@ -53,29 +53,29 @@ tidy_numbers t n =
 
 -- a refusal hands back the table as it was, with no moves
 pub tidy_refused : (t : RingTable) (r : Refusal) (ms : MoveList) → ms ≡ list_of []
-    → record { tidied = record { table = t; answer = not_tidied r }; moves = ms } ≡ tidying_by t (refused r)
+    → record { tidied = record { table = t; answer = Err r }; moves = ms } ≡ tidying_by t (Err r)
 tidy_refused t r ms e = rw e
 
 -- a table that was found to break a rule is met by 22
-pub tidy_unmet : (t : RingTable) (n : ℕ) (r : Bool) (d : TidyDecision) → r ≡ meets_rules t → not r ≡ true → d ≡ tidying_by t (refused BrokenRule)
+pub tidy_unmet : (t : RingTable) (n : ℕ) (r : Bool) (d : TidyDecision) → r ≡ meets_rules t → not r ≡ true → d ≡ tidying_by t (Err BrokenRule)
     → d ≡ decide_tidy_of t n
 unfolding decide_tidy_of
 tidy_unmet t n r d e h k = rw (← e, not-true r h) k
 
 module _ (t : RingTable) (n : ℕ) (rules : meets_rules t ≡ true) where
   -- one that meets them by 20, where the list is too short
-  pub tidy_short : (d : TidyDecision) → n < tidy_records → d ≡ tidying_by t (refused ShortList) → d ≡ decide_tidy_of t n
+  pub tidy_short : (d : TidyDecision) → n < tidy_records → d ≡ tidying_by t (Err ShortList) → d ≡ decide_tidy_of t n
   unfolding decide_tidy_of
   tidy_short d l k = rw (rules, lt-ltb n tidy_records l) k
 
   -- and else it is tidied
-  pub tidy_long : (d : TidyDecision) → tidy_records ≤ n → d ≡ tidying_by t granted → d ≡ decide_tidy_of t n
+  pub tidy_long : (d : TidyDecision) → tidy_records ≤ n → d ≡ tidying_by t (Ok tt) → d ≡ decide_tidy_of t n
   unfolding decide_tidy_of
   tidy_long d l k = rw (rules, le-ltb n tidy_records l) k
 
 -- the rounds by value, below the limit, are carried out
 pub tidied_up : (t : RingTable) (m : ℕ) (p : TidiedPlaces) → p ≡ tidied_places (S.tidy_up t.nodes m t.channels) → m ≡ limit_of t.ports
-    → record { tidied = record { table = with_channels t p.channels; answer = tidied p.rounds p.moves.count }; moves = p.moves } ≡ tidying_by t granted
+    → record { tidied = record { table = with_channels t p.channels; answer = Ok (record { rounds = p.rounds; moves = p.moves.count }) }; moves = p.moves } ≡ tidying_by t (Ok tt)
 tidied_up t m p e l = rw (e, l)
 
 module _ (t : RingTable) (rules : meets_rules t ≡ true) where
@@ -155,9 +155,9 @@ module _ (t : RingTable) (rules : meets_rules t ≡ true) where
   -- 02, E5: what a tidying with a list of any length promises, for every table that meets the ring rules
   pub tidies_by : (n : ℕ) → TidiesBy t n (decide_tidy_of t n).tidied (recorded (decide_tidy_of t n).moves)
   tidies_by n = record {
-    refused = λ l. rw (← tidy_short t n rules (tidying_by t (refused ShortList)) l refl) (refl, refl, refl);
+    refused = λ l. rw (← tidy_short t n rules (tidying_by t (Err ShortList)) l refl) (refl, refl, refl);
     done =
-        λ l. rw (← tidy_long t n rules (tidying_by t granted) l refl, recorded_list (rounds_of t).moves)
+        λ l. rw (← tidy_long t n rules (tidying_by t (Ok tt)) l refl, recorded_list (rounds_of t).moves)
         ((rounds_of t).rounds, length (rounds_of t).moves, refl, tidied_table_lem);
   }
 
@@ -166,17 +166,17 @@ module _ (t : RingTable) (rules : meets_rules t ≡ true) where
   tidy_rules n = go (dec_lt n tidy_records)
     where
       go : Dec (n < tidy_records) → meets_rules (decide_tidy_of t n).tidied.table ≡ true
-      go (yes l) = rw (← tidy_short t n rules (tidying_by t (refused ShortList)) l refl) rules
-      go (no h) = rw (← tidy_long t n rules (tidying_by t granted) (omega arith) refl) does.kept.rules
+      go (yes l) = rw (← tidy_short t n rules (tidying_by t (Err ShortList)) l refl) rules
+      go (no h) = rw (← tidy_long t n rules (tidying_by t (Ok tt)) (omega arith) refl) does.kept.rules
 
   -- 02, E5: a table that has been tidied is tidied already: no round is made, and it stays as it is
   pub tidy_again : (n : ℕ) → tidy_records ≤ n
       → decide_tidy_of (decide_tidy_of t n).tidied.table n
-      ≡ record { tidied = record { table = (decide_tidy_of t n).tidied.table; answer = tidied 0 0 }; moves = list_of [] }
+      ≡ record { tidied = record { table = (decide_tidy_of t n).tidied.table; answer = Ok (record { rounds = 0; moves = 0 }) }; moves = list_of [] }
   tidy_again n l =
-      rw (← tidy_long t n rules (tidying_by t granted) l refl)
+      rw (← tidy_long t n rules (tidying_by t (Ok tt)) l refl)
       (sym (tidy_long (with_channels t (rounds_of t).places) n does.kept.rules _ l
-      (sym (ap (λ o. record { tidied = record { table = with_channels t o.places; answer = tidied o.rounds (length o.moves) }; moves = list_of o.moves })
+      (sym (ap (λ o. record { tidied = record { table = with_channels t o.places; answer = Ok (record { rounds = o.rounds; moves = length o.moves }) }; moves = list_of o.moves })
       (tidying_again t.nodes t.ports t.channels (table_rules t rules))))))
 
 -- a decision answers by the numbers; and does what a tidying does
@@ -204,9 +204,9 @@ tidies_lent t lent o lent' e f rules = rw (e, f) (go (dec_lt (length lent) tidy_
 
     go : Dec (length lent < tidy_records) → Lent (decide_tidy_of t (length lent))
     go (yes l) =
-        subst Lent (tidy_short t (length lent) rules (tidying_by t (refused ShortList)) l refl)
+        subst Lent (tidy_short t (length lent) rules (tidying_by t (Err ShortList)) l refl)
         (record {
-          tidies = rw (← tidy_short t (length lent) rules (tidying_by t (refused ShortList)) l refl) at (tidies_by t rules (length lent));
+          tidies = rw (← tidy_short t (length lent) rules (tidying_by t (Err ShortList)) l refl) at (tidies_by t rules (length lent));
           long = ap length same;
           rest = same;
           untouched = λ k. same;
@@ -215,11 +215,11 @@ tidies_lent t lent o lent' e f rules = rw (e, f) (go (dec_lt (length lent) tidy_
         same : written_all lent (list_of []) ≡ lent
         same = fronted_none _ lent
     go (no h) =
-        subst Lent (tidy_long t (length lent) rules (tidying_by t granted) long refl)
+        subst Lent (tidy_long t (length lent) rules (tidying_by t (Ok tt)) long refl)
         (record {
           tidies =
-              subst (TidiesBy t (length lent) (tidying_by t granted).tidied) (recorded_list ms ∙ sym (rw (recorded_list ms) (take_fronted _ ms lent (omega (arith, few_moves t rules)))))
-              (rw (← tidy_long t (length lent) rules (tidying_by t granted) long refl) at (tidies_by t rules (length lent)));
+              subst (TidiesBy t (length lent) (tidying_by t (Ok tt)).tidied) (recorded_list ms ∙ sym (rw (recorded_list ms) (take_fronted _ ms lent (omega (arith, few_moves t rules)))))
+              (rw (← tidy_long t (length lent) rules (tidying_by t (Ok tt)) long refl) at (tidies_by t rules (length lent)));
           long = length_fronted _ (recorded (list_of ms)) lent (omega arith);
           rest = rw (recorded_list ms) (drop_fronted _ ms lent);
           untouched = λ k. absurd (h k);

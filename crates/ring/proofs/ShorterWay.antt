@@ -20,13 +20,13 @@ use Rattle.steps.specs.Steps.{join_place, unlit_place, plan_of}
 use Rattle.steps.proofs.ShorterWay.{beside, unlit_found, unlit_half}
 use Rattle.refusals.specs.Refusal.{judged}
 use Rattle.refusals.specs.Answer.{done}
-use Rattle.refusals.specs.declared.Verdict.TheVariants.{Granted as granted}
 use Rattle.ring.specs.Table.{RingTable, meets_rules}
 use Rattle.ring.specs.Opening.{open_causes, decide_of}
 use Rattle.ring.specs.Answer.{opening_answer}
 use Rattle.ring.proofs.Deciding.{decided, permits}
+use Rattle.std.specs.Prelude.{Ok}
 
-module _ (t : RingTable) (c : Circuit) (n : ℕ) (rules : meets_rules t ≡ true) (served : judged (open_causes t c n) ≡ granted)
+module _ (t : RingTable) (c : Circuit) (n : ℕ) (rules : meets_rules t ≡ true) (served : judged (open_causes t c n) ≡ Ok tt)
     (alone : limit_of t.ports ≤ join_place t.nodes (limit_of t.ports) t.channels c) where
   -- the place of step 2
   abbrev q : ℕ
@@ -40,7 +40,7 @@ module _ (t : RingTable) (c : Circuit) (n : ℕ) (rules : meets_rules t ≡ true
   lights : q < limit_of t.ports → opening_answer (decide_of t c n).opened.answer ≡ done (q ∷ 0 ∷ 0 ∷ [])
   unfolding plan_of
   lights l =
-      ap (λ d. opening_answer d.opened.answer) (decided t c n rules granted served)
+      ap (λ d. opening_answer d.opened.answer) (decided t c n rules (Ok tt) served)
       ∙ rw (le-ltb (join_place t.nodes (limit_of t.ports) t.channels c) (limit_of t.ports) alone, lt-ltb q (limit_of t.ports) l)
 
   -- beside an unlit place p below 2 × W

@@ -1,7 +1,7 @@
 -- Demand 3, in its own words: of a table t, a request c and a lent list of n records, and of what an opening makes of them, the answer o and
 -- the records ms; then of an opening that writes them to the list itself. Its causes are written out here by themselves, apart from the
 -- definition of the refusals. Assumes nothing. What `RingTable::open`, `decide` and `decide_valid` promise.
-use Rattle.std.specs.Prelude.{ℕ, ◌+◌, ◌≤◌, ◌<◌, ◌≡◌, ◌↔◌, true, false, ◌||◌, List, [], ◌∷◌, eqb, leb, ltb, length, take, drop}
+use Rattle.std.specs.Prelude.{ℕ, ◌+◌, ◌≤◌, ◌<◌, ◌≡◌, ◌↔◌, true, false, ◌||◌, List, [], ◌∷◌, eqb, leb, ltb, length, take, drop, Err, Ok}
 use Rattle.basis.specs.Choice.{bit}
 use Rattle.basis.specs.Count.{weigh, tally, All}
 use Rattle.limits.specs.Limits.{place_count}
@@ -18,7 +18,7 @@ use Rattle.steps.specs.Following.{followed}
 use Rattle.steps.specs.Moved.{moved, Names}
 use Rattle.refusals.specs.Answer.{refusal, done, Reason, ◌when◌, some_given, first_number}
 use Rattle.ring.specs.Table.{RingTable, meets_rules}
-use Rattle.ring.specs.Opening.{Opening, taken, not_opened, Opened}
+use Rattle.ring.specs.Opening.{Opening, Opened}
 use Rattle.ring.specs.Answer.{opening_answer}
 
 -- "the list holds fewer than three records, or the request names a node off the ring, one node twice, a circuit number already live, a
@@ -84,8 +84,8 @@ pub record Demand3 (t : RingTable) (c : Circuit) (n : ℕ) (o : Opened) (ms : Li
 
 -- how many records are written: as many as there are moves, and none on a refusal
 abbrev pub moves_in : Opening → ℕ
-moves_in (taken place moves looks) = moves
-moves_in (not_opened r) = 0
+moves_in (Ok x) = x.moves
+moves_in (Err r) = 0
 
 -- an opening with a lent list, which is lent' afterwards
 pub record Demand3Lent (t : RingTable) (c : Circuit) (lent : List Move) (o : Opened) (lent' : List Move) : Type 0 where

@@ -1,6 +1,6 @@
 -- 01, "Opening a circuit": the causes of a refusal in their order, and the answer. Assumes nothing.
 -- What `RingTable::open`, `decide`, `decide_valid` and `place` promise.
-use Rattle.std.specs.Prelude.{ℕ, not, List, [], ◌∷◌, ◌++◌, ltb, length}
+use Rattle.std.specs.Prelude.{ℕ, not, List, [], ◌∷◌, ◌++◌, ltb, length, Result, Ok, Err}
 use Rattle.limits.specs.Limits.{least_records}
 use Rattle.lightpath.specs.declared.Circuit.{Circuit}
 use Rattle.channels.specs.Channels.{live}
@@ -12,17 +12,18 @@ use Rattle.ports.specs.Ports.{limit_of}
 use Rattle.ports_used.specs.PortsUsed.{free_transmitter, free_receiver}
 use Rattle.steps.specs.Plan.{Plan}
 use Rattle.steps.specs.Steps.{plan_of}
-use Rattle.refusals.specs.Refusal.{Cause, ◌if◌, judged}
+use Rattle.refusals.specs.Refusal.{Cause, ◌if◌, judged, Verdict}
 use Rattle.refusals.specs.declared.Refusal.{Refusal}
 use Rattle.refusals.specs.declared.Refusal.TheVariants.{NumberLive, NoTransmitter, NoReceiver, ShortList, BrokenRule}
-use Rattle.refusals.specs.declared.Verdict.{Verdict}
-use Rattle.refusals.specs.declared.Verdict.TheVariants.{Granted as granted, Refused as refused}
 use Rattle.causes.specs.Causes.{named_causes}
 use Rattle.ring.specs.Table.{RingTable, meets_rules, with_channels}
-pub use Rattle.ring.specs.declared.Opening.{Opening}
-pub use Rattle.ring.specs.declared.Opening.TheVariants.{Taken as taken, Refused as not_opened}
+pub use Rattle.ring.specs.declared.Taken.{Taken}
 pub use Rattle.ring.specs.declared.Opened.{Opened}
 pub use Rattle.ring.specs.declared.Decision.{Decision}
+
+-- "place taken, number of moves, looks", or a refusal
+abbrev pub Opening : Type 0
+Opening = Result Taken Refusal
 
 -- what a request is refused for by what is in use: 12, 13, 14
 abbrev pub used_causes : RingTable → Circuit → List Cause
@@ -45,14 +46,14 @@ abbrev pub carried_out : RingTable → Plan → Decision
 carried_out t plan = record {
   opened = record {
     table = with_channels t (puts plan.changes t.channels);
-    answer = taken (record { 0 = plan.taken }) (length plan.moves) plan.looks;
+    answer = Ok (record { place = record { 0 = plan.taken }; moves = length plan.moves; looks = plan.looks });
   };
   moves = moves_of plan.moves;
 }
 
 -- a refusal carries only its number and the table as handed in
 abbrev pub refusing : RingTable → Refusal → Decision
-refusing t r = record { opened = record { table = t; answer = not_opened r }; moves = none }
+refusing t r = record { opened = record { table = t; answer = Err r }; moves = none }
 
 -- the plan of the steps for a circuit, and the circuit placed by it with nothing asked
 abbrev pub planned : RingTable → Circuit → Plan
@@ -63,8 +64,8 @@ placing t c = carried_out t (planned t c)
 
 -- a request by the verdict on it
 abbrev pub decided_by : RingTable → Circuit → Verdict → Decision
-decided_by t c granted = placing t c
-decided_by t c (refused r) = refusing t r
+decided_by t c (Ok _) = placing t c
+decided_by t c (Err r) = refusing t r
 
 -- an opening with a lent list of n records: 22, 20, 10, 11, 12, 13, 14, else the steps
 unfoldable pub decide_of : RingTable → Circuit → ℕ → Decision

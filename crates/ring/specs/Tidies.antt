@@ -1,6 +1,6 @@
 -- 02, E5, in its own words: of a table t, a lent list of n records, and of what a tidying makes of them, the answer o and the records ms; then
 -- of a tidying that writes them to the list itself. Assumes nothing. What `RingTable::tidy`, `decide_tidy` and `decide_tidy_valid` promise.
-use Rattle.std.specs.Prelude.{ℕ, ◌+◌, ◌≤◌, ◌<◌, ◌≡◌, ◌⊎◌, true, false, List, [], ◌∷◌, eqb, length, take, drop}
+use Rattle.std.specs.Prelude.{ℕ, ◌+◌, ◌≤◌, ◌<◌, ◌≡◌, ◌⊎◌, true, false, List, [], ◌∷◌, eqb, length, take, drop, Err, Ok}
 use Rattle.basis.specs.Choice.{bit}
 use Rattle.basis.specs.Count.{weigh, tally, All}
 use Rattle.limits.specs.Limits.{place_count}
@@ -17,7 +17,7 @@ use Rattle.steps.specs.Following.{relocated}
 use Rattle.steps.specs.Moved.{moved, Names}
 use Rattle.refusals.specs.Answer.{refusal, done}
 use Rattle.ring.specs.Table.{RingTable, meets_rules}
-use Rattle.ring.specs.Tidying.{Tidying, tidied, not_tidied, Tidied}
+use Rattle.ring.specs.Tidying.{Tidying, Tidied}
 use Rattle.ring.specs.Answer.{tidying_answer}
 
 -- the second table t' and the records ms after so many rounds and k moves
@@ -58,8 +58,8 @@ pub record TidiesBy (t : RingTable) (n : ℕ) (o : Tidied) (ms : List Move) : Ty
 
 -- how many records are written: as many as there are moves, and none on a refusal
 abbrev pub tidy_moves_in : Tidying → ℕ
-tidy_moves_in (tidied rounds moves) = moves
-tidy_moves_in (not_tidied r) = 0
+tidy_moves_in (Ok x) = x.moves
+tidy_moves_in (Err r) = 0
 
 -- a tidying with a lent list, which is lent' afterwards
 pub record TidiesLent (t : RingTable) (lent : List Move) (o : Tidied) (lent' : List Move) : Type 0 where

@@ -7,8 +7,7 @@ ghost use Rattle.ring.specs.Closing.{close_of};
 ghost use Rattle.ring.specs.Numbers.{close_reasons};
 
 use crate::{Answered, RingTable};
-use limits::PLACE_COUNT;
-use refusals::{Refusal, Verdict};
+use refusals::Refusal;
 
 impl RingTable {
     // A closing of a table that meets the ring rules.
@@ -20,13 +19,12 @@ impl RingTable {
         let nodes = self.nodes;
         let ports = self.ports;
         let channels = self.channels;
-        let place = channels::where_is(channels, number);
-        if PLACE_COUNT <= place {
+        let Some(place) = channels::where_is(channels, number) else {
             return Answered {
                 table: self,
-                verdict: Verdict::Refused(Refusal::NotLive),
+                verdict: Err(Refusal::NotLive),
             };
-        }
+        };
         let channels = channels::without_circuit(channels, number, place);
         Answered {
             table: RingTable {
@@ -34,7 +32,7 @@ impl RingTable {
                 ports,
                 channels,
             },
-            verdict: Verdict::Granted,
+            verdict: Ok(()),
         }
     }
 
@@ -46,7 +44,7 @@ impl RingTable {
         if !self.meets_rules() {
             return Answered {
                 table: self,
-                verdict: Verdict::Refused(Refusal::BrokenRule),
+                verdict: Err(Refusal::BrokenRule),
             };
         }
         self.close_valid(number)

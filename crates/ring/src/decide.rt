@@ -1,13 +1,12 @@
 // Opening a circuit, and placing one with nothing asked.
 
-ghost use Rattle.std.specs.Prelude.{◌≡◌, true};
+ghost use Rattle.std.specs.Prelude.{◌≡◌, true, Ok};
 ghost use Rattle.moves.specs.Records.{listed};
 ghost use Rattle.ports.specs.Ports.{limit_of};
 ghost use Rattle.rules.specs.Allowable.{Allowable};
 ghost use Rattle.survey.specs.Survey.{survey_of};
 ghost use Rattle.refusals.specs.Refusal.{judged};
 ghost use Rattle.refusals.specs.Answer.{answer_by};
-ghost use Rattle.refusals.specs.declared.Verdict.TheVariants.{Granted as granted};
 ghost use Rattle.causes.specs.Causes.{named_causes};
 ghost use Rattle.ring.specs.Table.{meets_rules};
 ghost use Rattle.ring.specs.Opening.{used_causes, placing, refusing, decided_by, decide_of};
@@ -15,10 +14,10 @@ ghost use Rattle.ring.specs.Answer.{opening_answer};
 ghost use Rattle.ring.specs.Demand3.{Demand3};
 ghost use Rattle.ring.specs.Numbers.{open_reasons, open_values};
 
-use crate::{Decision, Opened, Opening, RingTable};
+use crate::{Decision, Opened, RingTable, Taken};
 use lightpath::Circuit;
 use moves::Moves;
-use refusals::{Refusal, Verdict};
+use refusals::Refusal;
 use survey::Survey;
 
 impl RingTable {
@@ -42,11 +41,11 @@ impl RingTable {
                     ports,
                     nodes,
                 },
-                answer: Opening::Taken {
+                answer: Ok(Taken {
                     place,
                     moves: moves.count,
                     looks: planned.looks,
-                },
+                }),
             },
             moves,
         }
@@ -72,7 +71,7 @@ impl RingTable {
         Decision {
             opened: Opened {
                 table: self,
-                answer: Opening::Refused(refusal),
+                answer: Err(refusal),
             },
             moves: Moves::none(),
         }
@@ -80,7 +79,7 @@ impl RingTable {
 
     // An opening of a table that meets the ring rules, of a request that names two nodes of the ring: by what is seen of the places.
     fn decide_named(self, circuit: Circuit) -> Decision
-        requires { (meets_rules self ≡ true) × (judged (named_causes self.nodes circuit) ≡ granted) }
+        requires { (meets_rules self ≡ true) × (judged (named_causes self.nodes circuit) ≡ Ok tt) }
         ensures { result ≡ decided_by self circuit (judged (used_causes self circuit)) }
     {
         let nodes = self.nodes;
@@ -88,10 +87,9 @@ impl RingTable {
         let channels = self.channels;
         let limit = ports::place_limit(ports);
         let seen = survey::survey_places(nodes, limit, channels, circuit);
-        let verdict = causes::used_verdict(ports, circuit, seen);
-        match verdict {
-            Verdict::Granted => self.place_seen(circuit, limit, seen),
-            Verdict::Refused(refusal) => self.refuse(refusal),
+        match causes::used_verdict(ports, circuit, seen) {
+            Ok(()) => self.place_seen(circuit, limit, seen),
+            Err(refusal) => self.refuse(refusal),
         }
     }
 
@@ -102,10 +100,9 @@ impl RingTable {
         ensures numbers { opening_answer result.opened.answer ≡ answer_by (open_reasons self circuit lent) (open_values self circuit) }
         ensures demand3 { Demand3 self circuit lent result.opened (listed result.moves) }
     {
-        let verdict = causes::named_verdict(self.nodes, circuit, lent);
-        match verdict {
-            Verdict::Granted => self.decide_named(circuit),
-            Verdict::Refused(refusal) => self.refuse(refusal),
+        match causes::named_verdict(self.nodes, circuit, lent) {
+            Ok(()) => self.decide_named(circuit),
+            Err(refusal) => self.refuse(refusal),
         }
     }
 

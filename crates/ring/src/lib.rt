@@ -28,12 +28,16 @@ pub struct RingTable {
     pub nodes: u8,
 }
 
-// The answer to an opening: the place taken, the number of moves and of pairs tested; or the refusal.
+// The place that an opening took, and the number of moves and of pairs tested.
 #[derive(Clone, Copy)]
-pub enum Opening {
-    Taken { place: Place, moves: u8, looks: u16 },
-    Refused(Refusal),
+pub struct Taken {
+    pub place: Place,
+    pub moves: u8,
+    pub looks: u16,
 }
+
+// The answer to an opening.
+pub type Opening = Result<Taken, Refusal>;
 
 // The table after an opening, beside the answer.
 #[derive(Clone, Copy)]
@@ -56,12 +60,15 @@ pub struct Answered {
     pub verdict: Verdict,
 }
 
-// The answer to a tidying: the number of rounds and of moves; or the refusal.
+// The number of rounds of a tidying, and of its moves.
 #[derive(Clone, Copy)]
-pub enum Tidying {
-    Done { rounds: u8, moves: u8 },
-    Refused(Refusal),
+pub struct TidyCounts {
+    pub rounds: u8,
+    pub moves: u8,
 }
+
+// The answer to a tidying.
+pub type Tidying = Result<TidyCounts, Refusal>;
 
 // The table after a tidying, beside the answer.
 #[derive(Clone, Copy)]

@@ -6,7 +6,7 @@ ghost use Rattle.ring.specs.Making.{make_of};
 ghost use Rattle.ring.specs.Numbers.{make_reasons};
 
 use crate::{Answered, RingTable};
-use refusals::{Refusal, Verdict};
+use refusals::Refusal;
 
 impl RingTable {
     // A ring of so many nodes with a list of port counts, every place unlit.
@@ -17,23 +17,22 @@ impl RingTable {
         if !causes::node_count_holds(nodes, ports) {
             return Answered {
                 table: RingTable::blank(),
-                verdict: Verdict::Refused(Refusal::NodeCount),
+                verdict: Err(Refusal::NodeCount),
             };
         }
         let fields = causes::port_fields(ports);
-        let verdict = causes::ports_verdict(fields);
-        match verdict {
-            Verdict::Granted => Answered {
+        match causes::ports_verdict(fields) {
+            Ok(()) => Answered {
                 table: RingTable {
                     nodes,
                     ports: fields,
                     channels: channels::unlit_channels(),
                 },
-                verdict: Verdict::Granted,
+                verdict: Ok(()),
             },
-            Verdict::Refused(refusal) => Answered {
+            Err(refusal) => Answered {
                 table: RingTable::blank(),
-                verdict: Verdict::Refused(refusal),
+                verdict: Err(refusal),
             },
         }
     }

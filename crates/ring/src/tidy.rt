@@ -1,16 +1,15 @@
 // Tidying: circuits that stand apart are joined, round by round. By value, and as a host calls it, with the moves in a list that it lends.
 
-ghost use Rattle.std.specs.Prelude.{◌≡◌, true, length};
+ghost use Rattle.std.specs.Prelude.{◌≡◌, true, length, Ok, Err};
 ghost use Rattle.moves.specs.MoveList.{recorded};
 ghost use Rattle.refusals.specs.Answer.{answer_by};
-ghost use Rattle.refusals.specs.declared.Verdict.TheVariants.{Granted as granted, Refused as refused};
 ghost use Rattle.ring.specs.Table.{meets_rules};
 ghost use Rattle.ring.specs.Tidying.{tidying_by, decide_tidy_of, tidy_of, tidy_lent_after};
 ghost use Rattle.ring.specs.Answer.{tidying_answer};
 ghost use Rattle.ring.specs.Numbers.{tidy_reasons, tidy_values};
 ghost use Rattle.ring.specs.Tidies.{TidiesBy, TidiesLent};
 
-use crate::{RingTable, Tidied, TidyDecision, Tidying};
+use crate::{RingTable, Tidied, TidyCounts, TidyDecision};
 use limits::TIDY_RECORDS;
 use moves::{Move, MoveList};
 use refusals::Refusal;
@@ -19,7 +18,7 @@ impl RingTable {
     // The rounds of a table that meets the ring rules.
     fn tidy_rounds(self) -> TidyDecision
         requires { meets_rules self ≡ true }
-        ensures { result ≡ tidying_by self granted }
+        ensures { result ≡ tidying_by self (Ok tt) }
     {
         let nodes = self.nodes;
         let ports = self.ports;
@@ -35,10 +34,10 @@ impl RingTable {
                     ports,
                     nodes,
                 },
-                answer: Tidying::Done {
+                answer: Ok(TidyCounts {
                     rounds: tidied.rounds,
                     moves: moves.count as u8,
-                },
+                }),
             },
             moves,
         }
@@ -46,12 +45,12 @@ impl RingTable {
 
     // The table as it was, and the refusal.
     fn refuse_tidy(self, refusal: Refusal) -> TidyDecision
-        ensures { result ≡ tidying_by self (refused refusal) }
+        ensures { result ≡ tidying_by self (Err refusal) }
     {
         TidyDecision {
             tidied: Tidied {
                 table: self,
-                answer: Tidying::Refused(refusal),
+                answer: Err(refusal),
             },
             moves: MoveList::none(),
         }

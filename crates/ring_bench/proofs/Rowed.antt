@@ -1,13 +1,13 @@
 -- The checksum of the rows of a roster: an entry more, the entries of a row, the rows of all nodes, so many times. Assumes nothing.
 use Prim.Native.Nat.{ℕ, ◌+◌, ◌-◌, ◌*◌, ◌%◌, ◌^◌, ◌≤◌, ◌<◌}
 use mathlib.Core.Path.{◌≡◌, refl, ap, ◌∙◌}
-use mathlib.Core.List.{List}
+use mathlib.Core.List.{List, ◌∷◌}
 use native.Mathlib.Numerals.{add-one}
 use native.Mathlib.Omega.{arith}
-use lib.ListN.{length, take, drop, get_or, drop_of_length-le}
-use lib.Seq.{drop-cons}
+use lib.ListN.{length, take, drop}
 use mir.Syntax.{w64}
 use mir.Val.{Fits}
+use Rattle.std.proofs.lemmas.List.{nil_from_length}
 use Rattle.channels.specs.Channels.{Channels}
 use Rattle.channels.specs.declared.Standing.{Standing}
 use Rattle.ring.specs.declared.RingTable.{RingTable}
@@ -42,29 +42,23 @@ module _ (key rest : ℕ) (m : Standing) (e : m ≡ entry_of key rest) where
 -- for `search (rules, summed)`
 pub ruleset summed = (ends_fit, sum_fits, entry_summed)
 
--- those from i on are still to be summed
-pub record Summing (keys rests : List ℕ) (sum last i : ℕ) : Type 0 where
-  pub rest : with_all last (entries_in (drop i keys) (drop i rests)) ≡ with_all sum (entries_in keys rests)
-  pub within : i ≤ length keys
-  pub same : length rests ≡ length keys
+-- those of the keys ks and the rests rs are still to be summed
+pub record Summing (keys rests : List ℕ) (sum last : ℕ) (ks rs : List ℕ) : Type 0 where
+  pub rest : with_all last (entries_in ks rs) ≡ with_all sum (entries_in keys rests)
+  pub same : length rs ≡ length ks
 
 -- none is summed
-pub sum_none : (keys rests : List ℕ) (sum : ℕ) → length rests ≡ length keys → Summing keys rests sum sum 0
-sum_none keys rests sum s = record { rest = refl; within = omega arith; same = s }
+pub sum_none : (keys rests : List ℕ) (sum : ℕ) → length rests ≡ length keys → Summing keys rests sum sum keys rests
+sum_none keys rests sum s = record { rest = refl; same = s }
 
-module _ (keys rests : List ℕ) (sum last i : ℕ) (q : Summing keys rests sum last i) where
+module _ (keys rests : List ℕ) (sum last : ℕ) (ks rs : List ℕ) (q : Summing keys rests sum last ks rs) where
   -- the next one is
-  pub sum_next : (r : ℕ) → i < length keys → r ≡ with_entry last (entry_of (get_or keys i 0) (get_or rests i 0)) → Summing keys rests sum r (i + 1)
-  sum_next r h e =
-      let w : i < length rests = omega (arith, q.same) in
-      record { rest = rw (add-one i, e) (rw (drop-cons keys i 0 h, drop-cons rests i 0 w) at q.rest); within = omega arith; same = q.same }
+  pub sum_next : (k r : ℕ) (ks' rs' : List ℕ) → ks ≡ k ∷ ks' → rs ≡ r ∷ rs' → (s : ℕ) → s ≡ with_entry last (entry_of k r) → Summing keys rests sum s ks' rs'
+  sum_next k r ks' rs' e d s f = record { rest = rw f (rw (e, d) at q.rest); same = omega (arith, ap length e, ap length d, q.same) }
 
   -- all are
-  pub sum_all : length keys ≤ i → last ≡ with_all sum (entries_in keys rests)
-  sum_all h = rw (drop_of_length-le keys h) at q.rest
-
--- for `search (rules, summing)`
-pub ruleset summing = (sum_none, sum_next, sum_all)
+  pub sum_all : length ks ≡ 0 → last ≡ with_all sum (entries_in keys rests)
+  sum_all h = rw (nil_from_length ks h) at q.rest
 
 -- those of the nodes up to this one are summed
 pub record Rowed (es : List Standing) (N sum last node : ℕ) : Type 0 where

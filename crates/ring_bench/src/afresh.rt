@@ -49,10 +49,8 @@ fn link_load(nodes: u8, channels: [Channel; PLACE_COUNT], direction: Direction, 
     ensures { result ≡ link_load nodes channels direction link }
 {
     let mut sum: u8 = 0;
-    let mut w: u8 = 0;
-    while w < MOST_WAVELENGTHS {
+    for w in 0..MOST_WAVELENGTHS {
         sum += users_on(nodes, channels, w, direction, link);
-        w += 1;
     }
     sum
 }
@@ -62,11 +60,9 @@ pub fn fill(nodes: u8, channels: [Channel; PLACE_COUNT], out: &mut [u8])
     requires { (0 < nodes) × (2 * nodes ≤ length out.old) }
     ensures { out.new ≡ loads nodes channels ++ drop (2 * nodes) out.old }
 {
-    let mut link: u8 = 0;
-    while link < nodes {
+    for link in 0..nodes {
         let at = 2 * link as usize;
-        link += 1;
-        out[at] = link_load(nodes, channels, Direction::Clockwise, link);
-        out[at + 1] = link_load(nodes, channels, Direction::Counterclockwise, link);
+        out[at] = link_load(nodes, channels, Direction::Clockwise, link + 1);
+        out[at + 1] = link_load(nodes, channels, Direction::Counterclockwise, link + 1);
     }
 }

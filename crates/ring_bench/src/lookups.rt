@@ -28,10 +28,8 @@ pub fn with_row(sum: u32, keys: &[u64], rests: &[u64]) -> u32
     ensures { result ≡ with_all sum (entries_in keys.now rests.now) }
 {
     let mut last = sum;
-    let mut i: usize = 0;
-    while i < keys.len() {
-        last = with_entry(last, keys[i], rests[i]);
-        i += 1;
+    for (key, rest) in keys.iter().zip(rests) {
+        last = with_entry(last, *key, *rest);
     }
     last
 }
@@ -44,13 +42,9 @@ fn with_rows(sum: u32, heading: Heading, keys: &[u64], rests: &[u64]) -> u32
     let nodes = heading.nodes;
     let count = heading.count as usize;
     let mut last = sum;
-    let mut node: u8 = 0;
-    while node < nodes {
-        node += 1;
-        let row = rows::row_of(keys, count, node);
-        let start = row.start;
-        let end = row.end;
-        last = with_row(last, &keys[start..end], &rests[start..end]);
+    for node in 0..nodes {
+        let row = rows::row_of(&keys[..count], node + 1);
+        last = with_row(last, &keys[row.start..row.end], &rests[row.start..row.end]);
     }
     last
 }
@@ -61,10 +55,8 @@ fn repeat(heading: Heading, keys: &[u64], rests: &[u64], count: u32) -> u32
     ensures { result ≡ lookups (entries (places_of keys.now rests.now heading.count)) heading.nodes count }
 {
     let mut sum: u32 = 0;
-    let mut i: u32 = 0;
-    while i < count {
+    for _ in 0..count {
         sum = with_rows(sum, heading, keys, rests);
-        i += 1;
     }
     sum
 }

@@ -19,7 +19,6 @@ ghost use Rattle.ring.specs.Table.{meets_rules};
 
 use form::{LONGEST_FORM, NUMBER_WIDTH};
 use load::MOST_LOADS;
-use refusals::Verdict;
 use ring::RingTable;
 use std::env::Env;
 use std::io::Read;
@@ -41,18 +40,11 @@ fn say(rt: &HostRuntime, line: &[u8]) {
 // The number that a word begins with; from a hundred million on it gets no further digit.
 fn number_of(word: &[u8]) -> u32 {
     let mut number: u32 = 0;
-    for i in 0..word.len() {
-        let digit = word[i];
-        if digit < b'0' {
+    for digit in word {
+        if *digit < b'0' || b'9' < *digit || 100_000_000 <= number {
             return number;
         }
-        if b'9' < digit {
-            return number;
-        }
-        if 100_000_000 <= number {
-            return number;
-        }
-        number = 10 * number + (digit - b'0') as u32;
+        number = 10 * number + (*digit - b'0') as u32;
     }
     number
 }
@@ -62,7 +54,7 @@ fn walk(table: RingTable, count: u32, out: &mut [u8])
     requires { meets_rules table ≡ true }
 {
     for _ in 0..count {
-        load::report_valid(table, out);
+        let _ = load::report_valid(table, out);
     }
 }
 
@@ -70,9 +62,8 @@ fn walk(table: RingTable, count: u32, out: &mut [u8])
 fn count_afresh(table: RingTable, count: u32, out: &mut [u8])
     requires { (meets_rules table ≡ true) × (2 * most_nodes ≤ length out.old) }
 {
-    let channels = table.channels;
     for _ in 0..count {
-        afresh::fill(table.nodes, channels, out);
+        afresh::fill(table.nodes, table.channels, out);
     }
 }
 
@@ -84,33 +75,60 @@ fn copy(table: RingTable, count: u32, out: &mut [u8])
     for i in 0..count {
         copies[(i % 2) as usize] = table;
     }
-    let copied = copies[0];
-    load::report(copied, out);
+    let _ = load::report(copies[0], out);
 }
 
-// Which report is asked for, by its first letter, so many times.
-fn repeat(rt: &HostRuntime, kind: u8, table: RingTable, count: u32, out: &mut [u8])
+// A load report that is asked for: as it is, counted afresh for each link, or one after copies of the table.
+#[derive(Clone, Copy)]
+enum Report {
+    Walk,
+    Afresh,
+    Copy,
+}
+
+// What is asked for: a load report, if it is one of those that there are, tidyings, or the circuits of each node, in a roster or at the places.
+#[derive(Clone, Copy)]
+enum Kind {
+    Load(Option<Report>),
+    Tidy,
+    From,
+    Scan,
+}
+
+// The kind that begins with a letter.
+fn kind_of(letter: u8) -> Kind {
+    match letter {
+        b'w' => Kind::Load(Some(Report::Walk)),
+        b'a' => Kind::Load(Some(Report::Afresh)),
+        b'c' => Kind::Load(Some(Report::Copy)),
+        b't' => Kind::Tidy,
+        b'f' => Kind::From,
+        b's' => Kind::Scan,
+        _ => Kind::Load(None),
+    }
+}
+
+// The report that is asked for, so many times.
+fn repeat(rt: &HostRuntime, report: Option<Report>, table: RingTable, count: u32, out: &mut [u8])
     requires { (meets_rules table ≡ true) × (2 * most_nodes ≤ length out.old) }
 {
-    match kind {
-        b'w' => walk(table, count, out),
-        b'a' => count_afresh(table, count, out),
-        b'c' => copy(table, count, out),
-        _ => {
-            say(
-                rt,
-                b"ring_bench: KIND is walk, afresh, copy, tidy, from or scan\n",
-            );
-        }
+    match report {
+        Some(Report::Walk) => walk(table, count, out),
+        Some(Report::Afresh) => count_afresh(table, count, out),
+        Some(Report::Copy) => copy(table, count, out),
+        None => say(
+            rt,
+            b"ring_bench: KIND is walk, afresh, copy, tidy, from or scan\n",
+        ),
     }
 }
 
 // Writes the report that it leaves.
-fn run_load(rt: &HostRuntime, kind: u8, table: RingTable, count: u32)
+fn run_load(rt: &HostRuntime, report: Option<Report>, table: RingTable, count: u32)
     requires { meets_rules table ≡ true }
 {
     let mut out = [0u8; MOST_LOADS];
-    repeat(rt, kind, table, count, &mut out);
+    repeat(rt, report, table, count, &mut out);
     let length = 2 * table.nodes as usize;
     put(rt, &out[..length]);
 }
@@ -120,13 +138,11 @@ fn run_tidy(rt: &HostRuntime, table: RingTable, count: u32)
     requires { meets_rules table ≡ true }
 {
     let decision = tidyings::repeat(table, count);
-    let tidied = decision.tidied;
-    let answer = tidied.answer;
     let mut records = [0u8; MOST_RECORDED];
-    let recorded = tidyings::put_moves(&mut records, answer, decision.moves);
+    let recorded = tidyings::put_moves(&mut records, decision.tidied.answer, decision.moves);
     put(rt, &records[..recorded]);
     let mut form = [0u8; LONGEST_FORM];
-    let formed = saved_forms::form_of(tidied.table, &mut form);
+    let formed = saved_forms::form_of(decision.tidied.table, &mut form);
     put(rt, &form[..formed]);
 }
 
@@ -137,26 +153,25 @@ fn write_sum(rt: &HostRuntime, sum: u32) {
     put(rt, &out);
 }
 
-// What is asked for, by its first letter.
-fn run(rt: &HostRuntime, kind: u8, table: RingTable, count: u32)
+// What is asked for.
+fn run(rt: &HostRuntime, kind: Kind, table: RingTable, count: u32)
     requires { meets_rules table ≡ true }
 {
     match kind {
-        b't' => run_tidy(rt, table, count),
-        b'f' => write_sum(rt, lookups::by_rows(table, count)),
-        b's' => write_sum(rt, scan::by_places(table, count)),
-        _ => run_load(rt, kind, table, count),
+        Kind::Load(report) => run_load(rt, report, table, count),
+        Kind::Tidy => run_tidy(rt, table, count),
+        Kind::From => write_sum(rt, lookups::by_rows(table, count)),
+        Kind::Scan => write_sum(rt, scan::by_places(table, count)),
     }
 }
 
 // The table of a form, if it is accepted.
-fn run_form(rt: &HostRuntime, kind: u8, form: &[u8], count: u32) {
+fn run_form(rt: &HostRuntime, kind: Kind, form: &[u8], count: u32) {
     let read = decode::read(form);
     let table = read.table;
-    let verdict = read.verdict;
-    match verdict {
-        Verdict::Granted => run(rt, kind, table, count),
-        Verdict::Refused(_) => {
+    match read.verdict {
+        Ok(()) => run(rt, kind, table, count),
+        Err(_) => {
             say(rt, b"ring_bench: the form is refused\n");
         }
     }
@@ -183,5 +198,10 @@ fn main(rt: HostRuntime) {
     let digits = argument(&rt, 2, &mut number);
     let mut form = [0u8; LONGEST_FORM];
     let bytes = input(&rt, &mut form);
-    run_form(&rt, kind[0], &form[..bytes], number_of(&number[..digits]));
+    run_form(
+        &rt,
+        kind_of(kind[0]),
+        &form[..bytes],
+        number_of(&number[..digits]),
+    );
 }

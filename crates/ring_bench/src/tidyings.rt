@@ -9,7 +9,7 @@ ghost use Rattle.ring.specs.Tidying.{decide_tidy_of};
 use form::NUMBER_WIDTH;
 use limits::TIDY_RECORDS;
 use moves::{Move, MoveList};
-use ring::{RingTable, TidyDecision, Tidying};
+use ring::{RingTable, TidyCounts, TidyDecision, Tidying};
 
 // The bytes of a record.
 const RECORD: usize = NUMBER_WIDTH + 2;
@@ -23,10 +23,8 @@ pub fn repeat(table: RingTable, count: u32) -> TidyDecision
     ensures { result ≡ decide_tidy_of table tidy_records }
 {
     let mut last = table.decide_tidy_valid(TIDY_RECORDS);
-    let mut i: u32 = 1;
-    while i < count {
+    for _ in 1..count {
         last = table.decide_tidy_valid(TIDY_RECORDS);
-        i += 1;
     }
     last
 }
@@ -47,11 +45,10 @@ fn put_records(out: &mut [u8], at: usize, moves: MoveList) -> usize
     requires { (moves.count ≤ tidy_records) × (at + moves.count * 6 ≤ length out.old) }
     ensures { (result ≡ at + moves.count * 6) × (length out.new ≡ length out.old) }
 {
-    let count = moves.count;
+    let records = &moves.list[..moves.count];
     let mut next = at;
-    for i in 0..count {
-        let m = moves.list[i];
-        next = put_record(out, next, m);
+    for m in records {
+        next = put_record(out, next, *m);
     }
     next
 }
@@ -59,8 +56,8 @@ fn put_records(out: &mut [u8], at: usize, moves: MoveList) -> usize
 // The number of rounds.
 fn rounds_of(answer: Tidying) -> u8 {
     match answer {
-        Tidying::Done { rounds, .. } => rounds,
-        Tidying::Refused(_) => 0,
+        Ok(TidyCounts { rounds, .. }) => rounds,
+        Err(_) => 0,
     }
 }
 

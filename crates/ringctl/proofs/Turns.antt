@@ -4,12 +4,11 @@ use mathlib.Core.Path.{◌≡◌, refl, sym, ◌∙◌}
 use mathlib.Core.Bool.{Bool, true, false}
 use mathlib.Core.List.{List, [], ◌∷◌, ◌++◌}
 use native.Mathlib.Omega.{arith}
-use lib.IntN.{ℤ, pos, negsuc}
 use lib.Dec.{leb}
 use lib.ListN.{length, take, length-take}
 use lib.Seq.{take_all}
-use lib.Signed.{lt_z}
-use borrow.Author.Tests.{leb-true, leb-false, le-ltb}
+use borrow.Author.Tests.{leb-true, leb-false}
+use Rattle.std.specs.Prelude.{Option, Some, None, Ok, Err}
 use Rattle.basis.proofs.Arrays.{lent_counted}
 use Rattle.desk.specs.Desk.{answer_room}
 use Rattle.script.specs.declared.Session.{Session}
@@ -17,15 +16,10 @@ use Rattle.script.specs.declared.Fed.{Fed as FedSession}
 use Rattle.script.specs.Bytes.{start_session, ValidSession, Took, Finished}
 use Rattle.script.specs.Reads.{Reads, started, fed}
 use Rattle.script.proofs.Program.{reads_valid, took_within, finished_within}
-use Rattle.std.specs.Counts.{clamp_len}
 use Rattle.ringctl.specs.declared.Turn.{Turn}
+use Rattle.ringctl.specs.declared.Unwritten.{Unwritten}
 use Rattle.ringctl.specs.declared.Next.TheVariants.{Read, Stop, ReadFailed, WriteFailed}
-use Rattle.ringctl.specs.Turn.{below0, read_bytes, InputTaken, ReadTaken, TookIn, ReadOnce, Reached}
-
--- a number below 0, by the machine's test
-pub below0_is : (z : ℤ) → lt_z z (pos 0) ≡ below0 z
-below0_is (pos k) = le-ltb k 0 (omega arith)
-below0_is (negsuc k) = refl
+use Rattle.ringctl.specs.Turn.{read_bytes, InputTaken, ReadTaken, TookIn, ReadOnce, Reached}
 
 -- the count of a read, held to its buffer, gives the bytes that were read
 counted : (k : ℕ) (bytes : List ℕ) → take (min k (length bytes)) bytes ≡ take k bytes
@@ -37,39 +31,33 @@ counted k bytes = go (leb k (length bytes)) refl
         let f : length bytes < k = leb-false k (length bytes) e in
         let h : min k (length bytes) ≡ length bytes = omega arith in rw h (take_all (length bytes) bytes (omega arith) ∙ sym (take_all k bytes (omega arith)))
 
-never : true ≡ false → ⊥
-never e = let z : ◌≡◌ {A = ℕ} 0 1 = cc in omega arith
-
--- what was answered is got; a call that is passed it may read it back from its bits, as y or z
-module _ (s : Session) (bytes l l' : List ℕ) (one : answer_room ≤ length l) (room : answer_room * length bytes ≤ length l) where
+-- what was answered is got
+module _ (s : Session) (bytes l l' : List ℕ) (one : answer_room ≤ length l) (room : answer_room * length bytes ≤ length l) (got : Option ℕ) where
   -- the read failed
-  pub take_failed : (got y : ℤ) (b : Bool) → y ≡ got → b ≡ below0 y → b ≡ true → TookIn s got bytes l l (record { session = s; wrote = 0; next = ReadFailed })
-  take_failed (pos k) y b g e t = absurd (never (rw (t, g) at e))
-  take_failed (negsuc k) y b g e t = record { is = record { next = refl; session = refl; wrote = refl; lent = refl }; room = room; within = omega arith }
+  pub take_failed : got ≡ None → TookIn s got bytes l l (record { session = s; wrote = 0; next = ReadFailed })
+  take_failed e = rw e (record { is = record { next = refl; session = refl; wrote = refl; lent = refl }; room = room; within = omega arith })
 
-  -- it read nothing
-  pub take_ended : (got y z : ℤ) (b : Bool) → y ≡ got → b ≡ below0 y → b ≡ false → (count : ℕ) → z ≡ got → count ≡ clamp_len z (length bytes)
-      → (n : ℕ) → count ≡ 0 → Finished s l l' n → TookIn s got bytes l l' (record { session = s; wrote = n; next = Stop })
-  take_ended (pos k) y z b g e f count h c n o q =
-      let i : take k bytes ≡ [] = sym (counted k bytes) ∙ rw (← rw h at c, o) in
-      record { is = rw i (record { next = refl; finished = q }); room = room; within = finished_within q one }
-  take_ended (negsuc k) y z b g e f count h c n o q = absurd (never (sym (rw (f, g) at e)))
+  module _ (k : ℕ) (e : got ≡ Some k) (count : ℕ) (c : count ≡ min k (length bytes)) where
+    -- it read nothing
+    pub take_ended : (n : ℕ) → count ≡ 0 → Finished s l l' n → TookIn s got bytes l l' (record { session = s; wrote = n; next = Stop })
+    take_ended n o q =
+        let i : take k bytes ≡ [] = sym (counted k bytes) ∙ rw (← c, o) in
+        rw e (record { is = rw i (record { next = refl; finished = q }); room = room; within = finished_within q one })
 
-  -- it read some bytes
-  pub take_fed : (got y z : ℤ) (b : Bool) → y ≡ got → b ≡ below0 y → b ≡ false → (count : ℕ) → z ≡ got → count ≡ clamp_len z (length bytes)
-      → count ≤ length bytes → (r : FedSession) → (count ≡ 0 → ⊥) → Took s (take count bytes) l l' r
-      → TookIn s got bytes l l' (record { session = r.session; wrote = r.wrote; next = Read })
-  take_fed (pos k) y z b g e f count h c w r n q =
-      record {
-        is = rw (← counted k bytes, ← rw h at c) (go (take count bytes) refl q);
-        room = room;
-        within = took_within q (omega (arith, length-take count bytes));
-      }
-    where
-      go : (chunk : List ℕ) → take count bytes ≡ chunk → Took s chunk l l' r → InputTaken s chunk l l' (record { session = r.session; wrote = r.wrote; next = Read })
-      go [] i q = absurd (n (lent_counted bytes count w ∙ rw i))
-      go (x ∷ chunk) i q = record { next = refl; took = q }
-  take_fed (negsuc k) y z b g e f count h c w r n q = absurd (never (sym (rw (f, g) at e)))
+    -- it read some bytes
+    pub take_fed : count ≤ length bytes → (r : FedSession) → (count ≡ 0 → ⊥) → Took s (take count bytes) l l' r
+        → TookIn s got bytes l l' (record { session = r.session; wrote = r.wrote; next = Read })
+    take_fed w r n q =
+        rw e
+        (record {
+          is = rw (← counted k bytes, ← c) (go (take count bytes) refl q);
+          room = room;
+          within = took_within q (omega (arith, length-take count bytes));
+        })
+      where
+        go : (chunk : List ℕ) → take count bytes ≡ chunk → Took s chunk l l' r → InputTaken s chunk l l' (record { session = r.session; wrote = r.wrote; next = Read })
+        go [] i q = absurd (n (lent_counted bytes count w ∙ rw i))
+        go (x ∷ chunk) i q = record { next = refl; took = q }
 
 pub ruleset taking = (take_failed, take_ended, take_fed)
 
@@ -81,11 +69,11 @@ pub reached_valid : (s : Session) → Reached s → ValidSession s
 reached_valid s r = reads_valid r.reads
 
 -- after a read that is not the last
-more : (s : Session) (l l' : List ℕ) (t : Turn) {input output : List ℕ} → Reads input output s → t.next ≡ Read → (got : ℤ) (bytes : List ℕ)
+more : (s : Session) (l l' : List ℕ) (t : Turn) {input output : List ℕ} → Reads input output s → t.next ≡ Read → (got : Option ℕ) (bytes : List ℕ)
     → answer_room * length bytes ≤ length l → ReadTaken s got bytes l l' t
     → Reads (input ++ read_bytes got bytes) (output ++ take t.wrote l') t.session
-more s l l' t r n (negsuc k) bytes room q = let y : ◌≡◌ {A = ℕ} 0 1 = cc in absurd (omega arith)
-more s l l' t {input} {output} r n (pos k) bytes room q = go (take k bytes) (omega (arith, length-take k bytes)) q
+more s l l' t r n None bytes room q = let y : ◌≡◌ {A = ℕ} 0 1 = cc in absurd (omega arith)
+more s l l' t {input} {output} r n (Some k) bytes room q = go (take k bytes) (omega (arith, length-take k bytes)) q
   where
     go : (chunk : List ℕ) → answer_room * length chunk ≤ length l → InputTaken s chunk l l' t
         → Reads (input ++ chunk) (output ++ take t.wrote l') t.session
@@ -93,7 +81,7 @@ more s l l' t {input} {output} r n (pos k) bytes room q = go (take k bytes) (ome
     go (x ∷ chunk) h q = fed {chunk = x ∷ chunk} {l = l} r h q.took
 
 -- what was taken in is written out
-module _ (s : Session) (got : ℤ) (bytes l l' : List ℕ) (t : Turn) (q : TookIn s got bytes l l' t) where
+module _ (s : Session) (got : Option ℕ) (bytes l l' : List ℕ) (t : Turn) (q : TookIn s got bytes l l' t) where
   pub turn_within : t.wrote ≤ length l'
   turn_within = q.within
 
@@ -101,16 +89,16 @@ module _ (s : Session) (got : ℤ) (bytes l l' : List ℕ) (t : Turn) (q : TookI
   turn_counted = lent_counted l' t.wrote q.within
 
   pub turn_written : ReadOnce s l l' t
-  turn_written = record { got = got; bytes = bytes; turn = t; took = q; taken = true; is = refl; goes_on = λ r n. more s l l' t r n got bytes q.room q.is }
+  turn_written = record { got = got; bytes = bytes; turn = t; took = q; taken = Ok tt; is = refl; goes_on = λ r n. more s l l' t r n got bytes q.room q.is }
 
-  pub turn_unwritten : ReadOnce s l l' (record { session = t.session; wrote = t.wrote; next = WriteFailed })
-  turn_unwritten =
+  pub turn_unwritten : (why : Unwritten) → ReadOnce s l l' (record { session = t.session; wrote = t.wrote; next = WriteFailed why })
+  turn_unwritten why =
       record {
         got = got;
         bytes = bytes;
         turn = t;
         took = q;
-        taken = false;
+        taken = Err why;
         is = refl;
         goes_on = λ r n. let y : ◌≡◌ {A = ℕ} 0 1 = cc in absurd (omega arith);
       }

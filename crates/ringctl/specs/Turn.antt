@@ -1,21 +1,17 @@
 -- What the program does with what a read answered: where a read fails it runs nothing, and else it writes what the bytes read print. What C's
 -- read and write did, no contract says. Assumes nothing. What each turn of `ringctl` keeps to.
-use Rattle.std.specs.Prelude.{ℕ, ◌*◌, ◌≤◌, ◌≡◌, Bool, true, false, List, [], ◌∷◌, ◌++◌, ℤ, pos, negsuc, length, take}
+use Rattle.std.specs.Prelude.{ℕ, ◌*◌, ◌≤◌, ◌≡◌, List, [], ◌∷◌, ◌++◌, Option, Some, None, Result, Ok, Err, length, take}
 use Rattle.desk.specs.Desk.{answer_room}
 use Rattle.script.specs.declared.Session.{Session}
 use Rattle.script.specs.Bytes.{Took, Finished}
 use Rattle.script.specs.Reads.{Reads}
 use Rattle.ringctl.specs.declared.Turn.{Turn}
+use Rattle.ringctl.specs.declared.Unwritten.{Unwritten}
 use Rattle.ringctl.specs.declared.Next.TheVariants.{Read, Stop, ReadFailed, WriteFailed}
 
 -- the most bytes of a read
 abbrev pub read_size : ℕ
 read_size = 1024
-
--- a number below 0
-abbrev pub below0 : ℤ → Bool
-below0 (pos k) = false
-below0 (negsuc k) = true
 
 -- a read failed: nothing was run, and nothing is to be written
 pub record Failed (s : Session) (l l' : List ℕ) (t : Turn) : Type 0 where
@@ -39,18 +35,18 @@ abbrev pub InputTaken : Session → List ℕ → List ℕ → List ℕ → Turn 
 InputTaken s [] l l' t = InputEnded s l l' t
 InputTaken s (x ∷ chunk) l l' t = InputFed s (x ∷ chunk) l l' t
 
--- the bytes read, by the answer of a read: a count of bytes at the start of its buffer, or below 0 where it failed
-abbrev pub read_bytes : ℤ → List ℕ → List ℕ
-read_bytes (pos k) bytes = take k bytes
-read_bytes (negsuc k) bytes = []
+-- the bytes read, by the answer of a read: a count of bytes at the start of its buffer, or none where it failed
+abbrev pub read_bytes : Option ℕ → List ℕ → List ℕ
+read_bytes (Some k) bytes = take k bytes
+read_bytes None bytes = []
 
 -- and what became of them
-abbrev pub ReadTaken : Session → ℤ → List ℕ → List ℕ → List ℕ → Turn → Type 0
-ReadTaken s (pos k) bytes l l' t = InputTaken s (read_bytes (pos k) bytes) l l' t
-ReadTaken s (negsuc k) bytes l l' t = Failed s l l' t
+abbrev pub ReadTaken : Session → Option ℕ → List ℕ → List ℕ → List ℕ → Turn → Type 0
+ReadTaken s (Some k) bytes l l' t = InputTaken s (read_bytes (Some k) bytes) l l' t
+ReadTaken s None bytes l l' t = Failed s l l' t
 
 -- so it was taken in; the lent bytes had room for the answers, and hold them
-pub record TookIn (s : Session) (got : ℤ) (bytes l l' : List ℕ) (t : Turn) : Type 0 where
+pub record TookIn (s : Session) (got : Option ℕ) (bytes l l' : List ℕ) (t : Turn) : Type 0 where
   pub is : ReadTaken s got bytes l l' t
   pub room : answer_room * length bytes ≤ length l
   pub within : t.wrote ≤ length l'
@@ -62,17 +58,17 @@ pub record Reached (s : Session) : Type 0 where
   pub reads : Reads input output s
 
 -- a write of the answers took all that it was handed, or failed; what it was handed no contract says
-abbrev pub handed : Bool → Turn → Turn
-handed true t = t
-handed false t = record { session = t.session; wrote = t.wrote; next = WriteFailed }
+abbrev pub handed : Result Unit Unwritten → Turn → Turn
+handed (Ok x) t = t
+handed (Err why) t = record { session = t.session; wrote = t.wrote; next = WriteFailed why }
 
 -- one read: of some answer, and some bytes in its buffer, that were taken in and answered
 pub record ReadOnce (s : Session) (l l' : List ℕ) (r : Turn) : Type 0 where
-  pub got : ℤ
+  pub got : Option ℕ
   pub bytes : List ℕ
   pub turn : Turn
   pub took : TookIn s got bytes l l' turn
-  pub taken : Bool
+  pub taken : Result Unit Unwritten
   pub is : r ≡ handed taken turn
   -- where the program goes on, it has taken in the bytes read after those before, and the answers at the start of the lent bytes come after
   -- those before

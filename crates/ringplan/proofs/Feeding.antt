@@ -12,7 +12,8 @@ use borrow.Author.Tests.{leb-true}
 use Rattle.basis.proofs.Arrays.{lent_counted}
 use Rattle.buffer.proofs.Put.{put_length}
 use Rattle.desk.specs.Desk.{desk_of, Keeps}
-use Rattle.desk.specs.declared.DeskState.{DeskState}
+use Rattle.std.specs.Prelude.{Option}
+use Rattle.roster.specs.declared.Heading.{Heading}
 use Rattle.desk.specs.declared.Ran.{Ran}
 use Rattle.script.specs.Bytes.{Script}
 use Rattle.answer_room.specs.Room.{line_room}
@@ -25,7 +26,7 @@ use Rattle.ringplan.proofs.Takings.{slice_more, put_more}
 
 -- the bytes of the chunk from a position up to i are taken in, and what they print stands in the lent bytes up to position at; the keys and the
 -- rests hold the desk's table, so many bytes of a line are held, and there is room for an answer
-pub record Feeding (s : Script) (chunk : List ℕ) (start : ℕ) (d : DeskState) (count : ℕ) (keys0 keys rests0 rests line0 line out0 out : List ℕ) (at i : ℕ) : Type 0 where
+pub record Feeding (s : Script) (chunk : List ℕ) (start : ℕ) (d : Option Heading) (count : ℕ) (keys0 keys rests0 rests line0 line out0 out : List ℕ) (at i : ℕ) : Type 0 where
   pub takes : Takes s (slice start i chunk) (take at out) (script_in (record { desk = d; count = count }) keys rests line)
   pub began : start ≤ i
   pub within : i ≤ length chunk
@@ -55,7 +56,7 @@ feed_start h keys rests line out chunk start s k =
       same_out = refl;
     }
 
-module _ (s : Script) (chunk : List ℕ) (start : ℕ) (d : DeskState) (count : ℕ) (keys0 keys rests0 rests line0 line out0 out : List ℕ) (at i : ℕ)
+module _ (s : Script) (chunk : List ℕ) (start : ℕ) (d : Option Heading) (count : ℕ) (keys0 keys rests0 rests line0 line out0 out : List ℕ) (at i : ℕ)
     (q : Feeding s chunk start d count keys0 keys rests0 rests line0 line out0 out at i) where
   pub feed_held : count ≤ length line
   feed_held = omega (arith, q.few, q.width, q.same_line)
@@ -166,12 +167,13 @@ module _ (s : Script) (chunk : List ℕ) (start : ℕ) (d : DeskState) (count : 
         let e : length (take count line) ≡ held_room = omega (arith, q.few, lent_counted line count feed_held) in
         other line count n (take_at (take count line) (get_or chunk i 0 ∷ []) held_room e) refl q.few
 
-  pub feed_all : length chunk ≤ i → Took s chunk start keys rests line out (record { held = record { desk = d; count = count }; taken = i; wrote = at })
+  pub feed_all : length chunk ≤ i → Took s chunk start keys rests line out (record { held = record { desk = d; count = count }; taken = length chunk; wrote = at })
   feed_all h =
+      let e : i ≡ length chunk = omega (arith, q.within) in
       record {
-        takes = q.takes;
-        further = λ c. omega arith;
-        within = q.within;
+        takes = rw e at q.takes;
+        further = λ c. c;
+        within = omega arith;
         written = omega (arith, q.room, q.same_out);
         ready =
             record {

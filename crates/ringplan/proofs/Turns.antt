@@ -1,11 +1,11 @@
 -- A chunk taken in part by part, a turn of the program's loop, and the end of the input. Assumes nothing.
 use Prim.Native.Nat.{ℕ, ◌-◌, ◌≤◌, ◌<◌}
 use mathlib.Core.Path.{◌≡◌, refl, sym, ap, ◌∙◌}
-use mathlib.Core.Bool.{Bool, true, false}
 use mathlib.Core.List.{List, [], ◌++◌}
 use native.Mathlib.Omega.{arith}
 use lib.ListN.{length, take, replicate, length-replicate}
 use lib.Seq.{take_all}
+use Rattle.std.specs.Prelude.{Result, Ok, Err}
 use Rattle.basis.proofs.Arrays.{lent_counted}
 use Rattle.limits.specs.Limits.{most_circuits}
 use Rattle.desk.specs.Desk.{desk_of}
@@ -16,6 +16,8 @@ use Rattle.planner_lines.specs.Ran.{CanAnswer, LineRun}
 use Rattle.buffer.proofs.Put.{put_length}
 use Rattle.ringplan.specs.declared.input.Held.{Held}
 use Rattle.ringplan.specs.declared.input.Fed.{Fed}
+use Rattle.ringplan.specs.declared.input.Unwritten.{Unwritten}
+use Rattle.ringplan.specs.declared.Failure.{Failure}
 use Rattle.ringplan.specs.declared.Next.{Next}
 use Rattle.ringplan.specs.declared.Next.TheVariants.{Read, Finish, Stop}
 use Rattle.ringplan.specs.Plan.{held_room, BetweenReads, script_in, start_held}
@@ -87,25 +89,25 @@ module _ (s : Script) (chunk : List ℕ) (h : Held) (keys0 keys rests0 rests lin
           same_out = d ∙ q.same_out;
         }
 
-  pub intake_all : length chunk ≤ taken → TookIn s chunk (script_in h keys rests line) true
+  pub intake_all : length chunk ≤ taken → TookIn s chunk (script_in h keys rests line) (Ok tt)
   intake_all k = record { answered = λ e. rw (take_all taken chunk k) at q.answered }
 
 -- where a write failed, nothing is said
-pub unwritten : (s : Script) (chunk : List ℕ) (t : Script) → TookIn s chunk t false
-unwritten s chunk t = record { answered = λ e. let z : ◌≡◌ {A = ℕ} 0 1 = cc in absurd (omega arith) }
+pub unwritten : (s : Script) (chunk : List ℕ) (t : Script) (why : Unwritten) → TookIn s chunk t (Err why)
+unwritten s chunk t why = record { answered = λ e. let z : ◌≡◌ {A = ℕ} 0 1 = cc in absurd (omega arith) }
 
 pub ruleset intaking =
     (intake_start, intake_ready, intake_within, intake_keys, intake_rests, intake_line, intake_out, fed_written, fed_ready, fed_less, fed_more, intake_all, unwritten, lent_counted)
 
 -- what a read answered
 module _ (s t : Script) where
-  pub read_stopped : ReadOnce s t Stop
-  read_stopped = record { chunk = []; is = tt }
+  pub read_stopped : (why : Failure) → ReadOnce s t (Stop why)
+  read_stopped why = record { chunk = []; is = tt }
 
   pub read_ended : t ≡ s → ReadOnce s t Finish
   read_ended e = record { chunk = []; is = e }
 
-  pub read_taken : (b : Bool) (chunk : List ℕ) → TookIn s chunk t b → b ≡ true → ReadOnce s t Read
+  pub read_taken : (b : Result Unit Unwritten) (chunk : List ℕ) → TookIn s chunk t b → b ≡ Ok tt → ReadOnce s t Read
   read_taken b chunk h e = record { chunk = chunk; is = h.answered e }
 
 pub reached_ready : (h : Held) (keys rests line out : List ℕ) → Reached h keys rests line out → BetweenReads h keys rests line out
@@ -126,8 +128,8 @@ reached_start h keys rests line out e k i w r =
           record {
             keeps =
                 record {
-                  held = λ t. let z : ◌≡◌ {A = ℕ} 0 1 = cc in absurd (omega arith);
-                  blank = λ t. refl;
+                  held = λ t w. let z : ◌≡◌ {A = ℕ} 0 1 = cc in absurd (omega arith);
+                  blank = λ t. (refl, refl);
                   long_keys = length-replicate {A = ℕ} most_circuits 0;
                   long_rests = length-replicate {A = ℕ} most_circuits 0;
                 };

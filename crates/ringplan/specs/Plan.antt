@@ -1,6 +1,5 @@
 -- What the planner's program keeps to between two reads. Assumes nothing.
-use Rattle.std.specs.Prelude.{ℕ, ◌+◌, ◌≤◌, false, List, length, take, replicate}
-use Rattle.limits.specs.Limits.{port_fields}
+use Rattle.std.specs.Prelude.{ℕ, ◌+◌, ◌≤◌, List, length, take, None}
 use Rattle.commands.specs.Command.{longest_command}
 use Rattle.desk.specs.Desk.{desk_of, Keeps}
 use Rattle.script.specs.Bytes.{Script}
@@ -24,4 +23,4 @@ script_in h keys rests line = record { desk = desk_of h.desk keys rests; held = 
 
 -- before the first byte
 abbrev pub start_held : Held
-start_held = record { desk = record { heading = record { ports = replicate port_fields 0; nodes = 0; count = 0 }; ready = false }; count = 0 }
+start_held = record { desk = None; count = 0 }

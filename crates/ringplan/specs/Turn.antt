@@ -1,11 +1,12 @@
 -- What each call of the planner's program does with the bytes that were read. What C's read and write did, no contract says. Assumes nothing.
-use Rattle.std.specs.Prelude.{ℕ, ◌≤◌, ◌<◌, ◌≡◌, Bool, true, List, [], ◌++◌, length, take}
+use Rattle.std.specs.Prelude.{ℕ, ◌≤◌, ◌<◌, ◌≡◌, List, [], ◌++◌, Result, Ok, length, take}
 use Rattle.std.proofs.Math.Seq.{slice}
 use Rattle.desk.specs.Desk.{Desk, empty_desk}
 use Rattle.script.specs.Script.{lines_after}
 use Rattle.script.specs.Bytes.{Script}
 use Rattle.ringplan.specs.declared.input.Held.{Held}
 use Rattle.ringplan.specs.declared.input.Fed.{Fed}
+use Rattle.ringplan.specs.declared.input.Unwritten.{Unwritten}
 use Rattle.ringplan.specs.declared.Next.{Next}
 use Rattle.ringplan.specs.declared.Next.TheVariants.{Read, Finish, Stop}
 use Rattle.ringplan.specs.Plan.{BetweenReads, script_in}
@@ -25,8 +26,8 @@ pub record Answered (s : Script) (chunk : List ℕ) (t : Script) : Type 0 where
   pub takes : Takes s chunk text t
 
 -- where every answer was written, all of the chunk was taken in and answered
-pub record TookIn (s : Script) (chunk : List ℕ) (t : Script) (wrote : Bool) : Type 0 where
-  pub answered : wrote ≡ true → Answered s chunk t
+pub record TookIn (s : Script) (chunk : List ℕ) (t : Script) (wrote : Result Unit Unwritten) : Type 0 where
+  pub answered : wrote ≡ Ok tt → Answered s chunk t
 
 -- some bytes lead here from the start, and the program may go on
 pub record Reached (h : Held) (keys rests line out : List ℕ) : Type 0 where
@@ -40,7 +41,7 @@ pub record Reached (h : Held) (keys rests line out : List ℕ) : Type 0 where
 abbrev pub AfterRead : Script → List ℕ → Script → Next → Type 0
 AfterRead s chunk t Read = Answered s chunk t
 AfterRead s chunk t Finish = t ≡ s
-AfterRead s chunk t Stop = Unit {0}
+AfterRead s chunk t (Stop why) = Unit {0}
 
 -- one read, of some bytes
 pub record ReadOnce (s t : Script) (next : Next) : Type 0 where

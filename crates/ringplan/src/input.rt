@@ -1,22 +1,20 @@
 // Lines from the bytes as they come: a line is held until it ends, and then run. The desk's circuits stand in keys and rests that are lent.
 
-ghost use Rattle.std.specs.Prelude.{◌≡◌, ◌≤◌, IsTrue, length};
+ghost use Rattle.std.specs.Prelude.{◌≡◌, ◌≤◌, length};
 ghost use Rattle.ringplan.specs.Plan.{BetweenReads, script_in, start_held};
 ghost use Rattle.ringplan.specs.Turn.{Took, TookIn, Reached, Finished};
 
 use commands::LONGEST_COMMAND;
-use desk::DeskState;
-use limits::PORT_FIELDS;
 use roster::Heading;
 use std::io::ErrorKind;
 
 // A line's bytes, and one more by which a line is seen to be too long.
 pub const HELD_ROOM: usize = LONGEST_COMMAND + 1;
 
-// The desk, and how many bytes of a line are held.
+// The desk, which is none before the first accepted ring, and how many bytes of a line are held.
 #[derive(Clone, Copy)]
 pub struct Held {
-    pub desk: DeskState,
+    pub desk: Option<Heading>,
     pub count: usize,
 }
 
@@ -28,11 +26,18 @@ struct Fed {
     wrote: usize,
 }
 
+// Why answers were not written: nobody reads them, or the write failed.
+#[derive(Clone, Copy)]
+pub enum Unwritten {
+    Unread,
+    Failed,
+}
+
 // What is held after a chunk, and whether every answer was written.
 #[derive(Clone, Copy)]
 pub struct Intake {
     pub held: Held,
-    pub wrote: bool,
+    pub written: Result<(), Unwritten>,
 }
 
 // Before the first byte: no ring was accepted, and no byte is held.
@@ -40,14 +45,7 @@ pub fn start() -> Held
     ensures { result ≡ start_held }
 {
     Held {
-        desk: DeskState {
-            heading: Heading {
-                ports: [0; PORT_FIELDS],
-                nodes: 0,
-                count: 0,
-            },
-            ready: false,
-        },
+        desk: None,
         count: 0,
     }
 }
@@ -69,10 +67,9 @@ fn feed(
     let mut desk = held.desk;
     let mut count = held.count;
     let mut at: usize = 0;
-    let mut i = start;
-    while i < chunk.len() {
+    // By position: where the room is too little, the position after the byte is given back.
+    for i in start..chunk.len() {
         let byte = chunk[i];
-        i += 1;
         if byte == b'\n' {
             let ran = planner::run_line(rt, desk, keys, rests, &line[..count], out, at);
             desk = ran.desk;
@@ -83,33 +80,28 @@ fn feed(
             }
             return Fed {
                 held: Held { desk, count },
-                taken: i,
+                taken: i + 1,
                 wrote: at,
             };
         }
         if count < HELD_ROOM {
             line[count] = byte;
             count += 1;
-            continue;
         }
     }
     Fed {
         held: Held { desk, count },
-        taken: i,
+        taken: chunk.len(),
         wrote: at,
     }
 }
 
-// Writes answers to standard output, and gives whether they were written. Where they were not, `unread` is whether nobody reads them.
-pub fn put(rt: &HostRuntime, answers: &[u8], unread: &mut bool) -> bool
-    ensures { IsTrue result → unread.new ≡ unread.old }
-{
+// Writes answers to standard output.
+pub fn put(rt: &HostRuntime, answers: &[u8]) -> Result<(), Unwritten> {
     match rt.write_all(answers) {
-        Ok(()) => true,
-        Err(why) => {
-            *unread = why.kind() == ErrorKind::BrokenPipe;
-            false
-        }
+        Ok(()) => Ok(()),
+        Err(why) if why.kind() == ErrorKind::BrokenPipe => Err(Unwritten::Unread),
+        Err(_) => Err(Unwritten::Failed),
     }
 }
 
@@ -122,24 +114,29 @@ pub fn take_in(
     line: &mut [u8],
     chunk: &[u8],
     out: &mut [u8],
-    unread: &mut bool,
 ) -> Intake
     requires { BetweenReads held keys.old rests.old line.old out.old }
     ensures ready { BetweenReads result.held keys.new rests.new line.new out.new }
-    ensures answered { TookIn (script_in held keys.old rests.old line.old) chunk.now (script_in result.held keys.new rests.new line.new) result.wrote }
+    ensures answered { TookIn (script_in held keys.old rests.old line.old) chunk.now (script_in result.held keys.new rests.new line.new) result.written }
 {
     let mut held = held;
     let mut taken: usize = 0;
+    // From where each feed left off.
     while taken < chunk.len() {
         let fed = feed(rt, held, keys, rests, line, chunk, taken, out);
         held = fed.held;
         taken = fed.taken;
-        if put(rt, &out[..fed.wrote], unread) {
-            continue;
+        if let Err(why) = put(rt, &out[..fed.wrote]) {
+            return Intake {
+                held,
+                written: Err(why),
+            };
         }
-        return Intake { held, wrote: false };
     }
-    Intake { held, wrote: true }
+    Intake {
+        held,
+        written: Ok(()),
+    }
 }
 
 // Runs the line that is held when the input has ended. Gives how many bytes its answer takes at the start of the lent bytes.
@@ -157,6 +154,5 @@ pub fn finish(
     if held.count == 0 {
         return 0;
     }
-    let ran = planner::run_line(rt, held.desk, keys, rests, &line[..held.count], out, 0);
-    ran.next
+    planner::run_line(rt, held.desk, keys, rests, &line[..held.count], out, 0).next
 }

@@ -11,7 +11,7 @@ ghost use Rattle.ringplan.specs.Plan.{held_room, BetweenReads, script_in};
 ghost use Rattle.ringplan.specs.Turn.{Reached, ReadOnce};
 
 use answer_room::LINE_ROOM;
-use input::{HELD_ROOM, Held, put};
+use input::{HELD_ROOM, Held, Unwritten};
 use limits::MOST_CIRCUITS;
 use std::io::Read;
 use std::process::ExitCode;
@@ -25,12 +25,19 @@ const READ_SIZE: usize = 1024;
 // The status of a program that the system ends since nobody reads what it writes. Rattle has it run on, so that it ends itself.
 const UNREAD: u8 = 128 + 13;
 
-// What is to be done after a read.
+// What failed: a read, or the writing of answers.
+#[derive(Clone, Copy)]
+enum Failure {
+    Read,
+    Write(Unwritten),
+}
+
+// What is to be done after a read: another, or to end the input, or nothing more, since a call has failed.
 #[derive(Clone, Copy)]
 enum Next {
     Read,
     Finish,
-    Stop,
+    Stop(Failure),
 }
 
 // What is held after a read, and what is next.
@@ -45,13 +52,6 @@ fn say(rt: &HostRuntime, line: &[u8]) {
     let _ = rt.stderr().write_all(line);
 }
 
-// Says that an answer was not written, where somebody may want to know.
-fn say_unwritten(rt: &HostRuntime, unread: bool) {
-    if !unread {
-        say(rt, b"ringplan: write failed\n");
-    }
-}
-
 // Reads once, runs the lines that ended and writes their answers. The input ends where there is nothing to read.
 fn read_once(
     rt: &HostRuntime,
@@ -60,7 +60,6 @@ fn read_once(
     rests: &mut [u64],
     line: &mut [u8],
     out: &mut [u8],
-    unread: &mut bool,
 ) -> Turn
     requires { Reached held keys.old rests.old line.old out.old }
     ensures ready { BetweenReads result.held keys.new rests.new line.new out.new }
@@ -68,10 +67,9 @@ fn read_once(
 {
     let mut buffer = [0u8; READ_SIZE];
     let Ok(count) = rt.stdin().read(&mut buffer) else {
-        say(rt, b"ringplan: read failed\n");
         return Turn {
             held,
-            next: Next::Stop,
+            next: Next::Stop(Failure::Read),
         };
     };
     if count == 0 {
@@ -80,22 +78,21 @@ fn read_once(
             next: Next::Finish,
         };
     }
-    let fed = input::take_in(rt, held, keys, rests, line, &buffer[..count], out, unread);
-    let held = fed.held;
-    if fed.wrote {
-        return Turn {
+    let taken = input::take_in(rt, held, keys, rests, line, &buffer[..count], out);
+    let held = taken.held;
+    match taken.written {
+        Ok(()) => Turn {
             held,
             next: Next::Read,
-        };
-    }
-    say_unwritten(rt, *unread);
-    Turn {
-        held,
-        next: Next::Stop,
+        },
+        Err(why) => Turn {
+            held,
+            next: Next::Stop(Failure::Write(why)),
+        },
     }
 }
 
-// Runs the line that is held when the input has ended, and gives whether its answer was written.
+// Runs the line that is held when the input has ended, and writes its answer.
 fn end_input(
     rt: &HostRuntime,
     held: Held,
@@ -103,58 +100,49 @@ fn end_input(
     rests: &mut [u64],
     line: &[u8],
     out: &mut [u8],
-    unread: &mut bool,
-) -> bool
+) -> Result<(), Unwritten>
     requires { Reached held keys.old rests.old line.now out.old }
 {
     let wrote = input::finish(rt, held, keys, rests, line, out);
-    put(rt, &out[..wrote], unread)
+    input::put(rt, &out[..wrote])
 }
 
-// Reads to the end of the input. A proved loop has to end, and nothing says that the input does: it counts its reads down from a
-// number that no run uses up.
+// Reads to the end of the input, or until a call fails. A proved loop has to end, and nothing says that the input does: it reads as often
+// as no run does.
 fn run(
     rt: &HostRuntime,
     keys: &mut [u64],
     rests: &mut [u64],
     line: &mut [u8],
     out: &mut [u8],
-    unread: &mut bool,
-)
+) -> Result<(), Failure>
     requires { (keys.old ≡ replicate most_circuits 0) × (rests.old ≡ replicate most_circuits 0) × (held_room ≤ length line.old) × (line_room ≤ length out.old) }
 {
     let mut held = input::start();
-    let mut reads = u64::MAX;
-    while reads > 0 {
-        let turn = read_once(rt, held, keys, rests, line, out, unread);
+    for _ in 0..u64::MAX {
+        let turn = read_once(rt, held, keys, rests, line, out);
         held = turn.held;
-        let next = turn.next;
-        match next {
-            Next::Read => {
-                reads -= 1;
-                continue;
-            }
+        match turn.next {
+            Next::Read => {}
             Next::Finish => {
-                if !end_input(rt, held, keys, rests, line, out, unread) {
-                    say_unwritten(rt, *unread);
-                }
-                return;
+                return end_input(rt, held, keys, rests, line, out).map_err(Failure::Write);
             }
-            Next::Stop => return,
+            Next::Stop(why) => return Err(why),
         }
     }
+    Ok(())
 }
 
 fn main(rt: HostRuntime) -> ExitCode {
-    let mut unread = false;
     let mut keys = [0u64; MOST_CIRCUITS];
     let mut rests = [0u64; MOST_CIRCUITS];
     let mut line = [0u8; HELD_ROOM];
     let mut out = [0u8; OUT_ROOM];
-    run(&rt, &mut keys, &mut rests, &mut line, &mut out, &mut unread);
-    if unread {
-        ExitCode::from(UNREAD)
-    } else {
-        ExitCode::SUCCESS
+    match run(&rt, &mut keys, &mut rests, &mut line, &mut out) {
+        Ok(()) => {}
+        Err(Failure::Read) => say(&rt, b"ringplan: read failed\n"),
+        Err(Failure::Write(Unwritten::Failed)) => say(&rt, b"ringplan: write failed\n"),
+        Err(Failure::Write(Unwritten::Unread)) => return ExitCode::from(UNREAD),
     }
+    ExitCode::SUCCESS
 }

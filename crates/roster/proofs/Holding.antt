@@ -1,51 +1,20 @@
 -- A table's entries put into lent lists, and the table that lists are of. Assumes nothing.
-use Prim.Native.Nat.{ℕ, zero, suc, ◌+◌, ◌≤◌, ◌<◌}
-use mathlib.Core.Path.{◌≡◌, refl, sym, ap, ◌∙◌}
+use Prim.Native.Nat.{ℕ, ◌≤◌, ◌<◌}
+use mathlib.Core.Path.{◌≡◌, refl, sym, ◌∙◌}
 use mathlib.Core.Bool.{true}
-use mathlib.Core.List.{List, [], ◌∷◌, ◌++◌}
-use native.Mathlib.Numerals.{add-one}
+use mathlib.Core.List.{List, []}
 use native.Mathlib.Omega.{arith}
-use lib.ListN.{length, take, set, replicate, length-set}
-use lib.Seq.{take-suc-set, take_all}
+use lib.ListN.{length, replicate}
 use Rattle.limits.specs.Limits.{most_circuits}
 use Rattle.channels.specs.Channels.{Channels}
 use Rattle.ring.specs.Table.{meets_rules}
 use Rattle.ring.specs.declared.RingTable.{RingTable}
-use Rattle.roster.specs.Roster.{Heading, entries, places_of}
+use Rattle.roster.specs.Roster.{Heading, Roster, entries, arranged, table_of, places_of, stands}
 use Rattle.roster.specs.Held.{table_in, HoldsTable}
 use Rattle.roster.specs.Listed.{Lists}
-use Rattle.roster.proofs.Arranged.{lists_holds, held_places, holds_lists}
+use Rattle.roster.proofs.Arranged.{lists_holds, held_places, holds_lists, there_and_back_lem, arranged_stands}
 use Rattle.roster.proofs.Building.{blank_lists, room_for_all, numbers_apart}
 use Rattle.roster.proofs.Listing.{lists_room}
-
--- the first i numbers of a list are 0
-pub record Cleared (l₀ l : List ℕ) (i : ℕ) : Type 0 where
-  pub zeros : take i l ≡ replicate i 0
-  pub long : length l ≡ length l₀
-  pub within : i ≤ length l₀
-
-pub clear_start : (l : List ℕ) → Cleared l l 0
-clear_start l = record { zeros = refl; long = refl; within = omega arith }
-
-repeat_more : (i : ℕ) → ◌≡◌ {A = List ℕ} (replicate i 0 ++ (0 ∷ [])) (replicate (suc i) 0)
-repeat_more zero = refl
-repeat_more (suc i) = ap (λ (l : List ℕ). 0 ∷ l) (repeat_more i)
-
-pub clear_next : (l₀ l : List ℕ) (i : ℕ) → Cleared l₀ l i → i < length l → Cleared l₀ (set l i 0) (i + 1)
-clear_next l₀ l i h k = record {
-  zeros = rw (add-one i, take-suc-set l i 0 k, h.zeros) (repeat_more i);
-  long = length-set l i 0 ∙ h.long;
-  within = omega (arith, h.long);
-}
-
-pub clear_end : (l₀ l : List ℕ) (i : ℕ) → Cleared l₀ l i → length l ≤ i → l ≡ replicate (length l₀) 0
-clear_end l₀ l i h k = let e : i ≡ length l₀ = omega (arith, h.long, h.within) in sym (take_all i l k) ∙ h.zeros ∙ ap (λ n. replicate n 0) e
-
-pub clear_long : (l₀ l : List ℕ) (i : ℕ) → Cleared l₀ l i → length l ≡ length l₀
-clear_long l₀ l i h = h.long
-
--- for `search (rules, clearing)`
-pub ruleset clearing = (clear_start, clear_next, clear_end, clear_long)
 
 -- lists of zeros of the length of a roster have no entry
 pub cleared_lists : (k₀ r₀ keys rests : List ℕ) → length k₀ ≡ most_circuits → length r₀ ≡ most_circuits → keys ≡ replicate (length k₀) 0
@@ -65,6 +34,22 @@ module _ (t : RingTable) (meets : meets_rules t ≡ true) (keys rests : List ℕ
 
   pub hold_rests : (r₀ : List ℕ) → length r₀ ≡ most_circuits → length rests ≡ length r₀
   hold_rests r₀ e = (lists_room (entries t.channels) keys rests count h).1 ∙ sym e
+
+-- the roster made of lists that hold a table
+abbrev made : List ℕ → List ℕ → Heading → Roster
+made keys rests h = record { keys = keys; rests = rests; heading = h }
+
+module _ (t : RingTable) (meets : meets_rules t ≡ true) (keys rests : List ℕ) (h : Heading) (H : HoldsTable t h keys rests) where
+  pub made_arranged : made keys rests h ≡ arranged t
+  unfolding arranged
+  made_arranged = λ i. record {
+    keys = H.holds.keyed i;
+    rests = H.holds.rested i;
+    heading = record { ports = H.ports i; nodes = H.nodes i; count = H.holds.counted i };
+  }
+
+  pub made_back : (stands (made keys rests h) ≡ true) × (table_of (made keys rests h) ≡ t)
+  made_back = rw made_arranged (arranged_stands t meets H.holds.typed, there_and_back_lem t meets H.holds.typed)
 
 -- for `search (rules, holding)`
 pub ruleset holding = (room_for_all, numbers_apart, cleared_lists, hold_byte, hold_table, hold_keys, hold_rests)

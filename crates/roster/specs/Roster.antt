@@ -1,6 +1,6 @@
 -- 02, E7: "hold the circuits in memory by source node and then by number, each with its place. The old arrangement remains as the
 -- definition": a roster is defined by the ring table that it is of. Assumes nothing. What the calls on a roster promise.
-use Rattle.std.specs.Prelude.{ℕ, suc, Bool, true, false, ◌&&◌, not, List, [], ◌∷◌, ◌++◌, map, eqb, ltb, length, take}
+use Rattle.std.specs.Prelude.{ℕ, suc, Bool, true, false, ◌&&◌, not, List, [], ◌∷◌, ◌++◌, map, eqb, ltb, length, take, Ok, Err}
 use Rattle.basis.specs.Choice.{pick}
 use Rattle.limits.specs.Limits.{most_circuits}
 use Rattle.lightpath.specs.declared.Circuit.{Circuit}
@@ -9,10 +9,8 @@ use Rattle.slots.specs.declared.Slot.{Slot}
 use Rattle.channels.specs.Channels.{Channels, slots, unlit_channels}
 use Rattle.channels.specs.declared.Standing.{Standing}
 use Rattle.steps.specs.Following.{set_up}
-use Rattle.refusals.specs.Refusal.{◌if◌, judged}
+use Rattle.refusals.specs.Refusal.{◌if◌, judged, Verdict}
 use Rattle.refusals.specs.declared.Refusal.TheVariants.{BrokenRule}
-use Rattle.refusals.specs.declared.Verdict.{Verdict}
-use Rattle.refusals.specs.declared.Verdict.TheVariants.{Granted as granted, Refused as refused}
 use Rattle.ring.specs.Table.{meets_rules, blank_table}
 use Rattle.ring.specs.declared.Answered.{Answered}
 use Rattle.ring.specs.declared.RingTable.{RingTable}
@@ -107,16 +105,16 @@ stands r = meets_rules (table_of r) && same_entries (arranged (table_of r)) r
 -- "From each table that meets the ring rules, in either arrangement, the other is built .. building from any other is met by 22 and gives the
 -- blank one": a roster of a table,
 abbrev pub built_by : RingTable → Verdict → Built
-built_by t granted = record { roster = arranged t; verdict = granted }
-built_by t (refused r) = record { roster = blank_roster; verdict = refused r }
+built_by t (Ok _) = record { roster = arranged t; verdict = Ok tt }
+built_by t (Err r) = record { roster = blank_roster; verdict = Err r }
 
 unfoldable pub built_of : RingTable → Built
 built_of t = built_by t (judged ((BrokenRule if not (meets_rules t)) ∷ []))
 
 -- and a table of a roster
 abbrev pub table_by : Roster → Verdict → Answered
-table_by r granted = record { table = table_of r; verdict = granted }
-table_by r (refused e) = record { table = blank_table; verdict = refused e }
+table_by r (Ok _) = record { table = table_of r; verdict = Ok tt }
+table_by r (Err e) = record { table = blank_table; verdict = Err e }
 
 unfoldable pub table_built : Roster → Answered
 table_built r = table_by r (judged ((BrokenRule if not (stands r)) ∷ []))

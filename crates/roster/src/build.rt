@@ -1,32 +1,16 @@
 // Building a roster from a table, and a table from a roster; and the test of a roster.
 
-ghost use Rattle.std.specs.Prelude.{◌≡◌, true, not, [], ◌∷◌, ◌≤◌, length};
+ghost use Rattle.std.specs.Prelude.{◌≡◌, true, not, [], ◌∷◌, ◌≤◌};
 ghost use Rattle.limits.specs.Limits.{most_circuits};
 ghost use Rattle.refusals.specs.Answer.{verdict_answer, answer_by, ◌when◌};
 ghost use Rattle.ring.specs.Table.{meets_rules};
-ghost use Rattle.roster.specs.Roster.{arranged, table_of, same_list, same_entries, stands, built_of, table_built};
+ghost use Rattle.roster.specs.Roster.{arranged, table_of, same_entries, stands, built_of, table_built};
 
-use crate::lists::{file_all, places_of};
-use crate::{Built, Heading, Roster};
+use crate::held::{hold_first, table_in};
+use crate::{Built, Roster};
 use limits::MOST_CIRCUITS;
-use refusals::{Refusal, Verdict};
+use refusals::Refusal;
 use ring::{Answered, RingTable};
-
-// Whether two lists of one length are equal.
-fn same_list(a: &[u64], b: &[u64]) -> bool
-    requires { length a.now ≡ length b.now }
-    ensures { result ≡ same_list a.now b.now }
-{
-    let mut i: usize = 0;
-    while i < a.len() {
-        if a[i] == b[i] {
-            i += 1;
-            continue;
-        }
-        return false;
-    }
-    true
-}
 
 impl Roster {
     // The roster of a table that meets the ring rules.
@@ -35,20 +19,13 @@ impl Roster {
         ensures roster { result ≡ arranged table }
         ensures back { (stands result ≡ true) × (table_of result ≡ table) }
     {
-        let nodes = table.nodes;
-        let ports = table.ports;
-        let channels = table.channels;
-        let mut keys = [0u64; MOST_CIRCUITS];
-        let mut rests = [0u64; MOST_CIRCUITS];
-        let count = file_all(&mut keys, &mut rests, channels);
+        let mut keys = [0; MOST_CIRCUITS];
+        let mut rests = [0; MOST_CIRCUITS];
+        let heading = hold_first(&mut keys, &mut rests, table);
         Roster {
             keys,
             rests,
-            heading: Heading {
-                ports,
-                nodes,
-                count: count as u8,
-            },
+            heading,
         }
     }
 
@@ -61,12 +38,12 @@ impl Roster {
         if !table.meets_rules() {
             return Built {
                 roster: Roster::blank(),
-                verdict: Verdict::Refused(Refusal::BrokenRule),
+                verdict: Err(Refusal::BrokenRule),
             };
         }
         Built {
             roster: Roster::of_valid(table),
-            verdict: Verdict::Granted,
+            verdict: Ok(()),
         }
     }
 
@@ -75,49 +52,27 @@ impl Roster {
         requires { self.heading.count ≤ most_circuits }
         ensures { result ≡ table_of self }
     {
-        let heading = self.heading;
-        let ports = heading.ports;
-        let nodes = heading.nodes;
-        let keys = self.keys;
-        let rests = self.rests;
-        let channels = places_of(&keys, &rests, heading.count as usize);
-        RingTable {
-            channels,
-            ports,
-            nodes,
-        }
+        table_in(self.heading, &self.keys, &self.rests)
     }
 
     // Whether two rosters of one ring have the same entries, and nothing else in the room left.
     fn same_entries(self, other: Roster) -> bool
         ensures { result ≡ same_entries self other }
     {
-        let counted = self.heading.count == other.heading.count;
-        if !counted {
-            return false;
-        }
-        let keys = self.keys;
-        let other_keys = other.keys;
-        if !same_list(&keys, &other_keys) {
-            return false;
-        }
-        let rests = self.rests;
-        let other_rests = other.rests;
-        same_list(&rests, &other_rests)
+        self.heading.count == other.heading.count
+            && self.keys == other.keys
+            && self.rests == other.rests
     }
 
     // Whether the table of the roster meets the ring rules and gives it back.
     pub fn stands(self) -> bool
         ensures { result ≡ stands self }
     {
-        if MOST_CIRCUITS < self.heading.count as usize {
+        if MOST_CIRCUITS < usize::from(self.heading.count) {
             return false;
         }
         let table = self.table_valid();
-        if !table.meets_rules() {
-            return false;
-        }
-        Roster::of_valid(table).same_entries(self)
+        table.meets_rules() && Roster::of_valid(table).same_entries(self)
     }
 
     // The table of a roster.
@@ -129,12 +84,12 @@ impl Roster {
         if !self.stands() {
             return Answered {
                 table: RingTable::blank(),
-                verdict: Verdict::Refused(Refusal::BrokenRule),
+                verdict: Err(Refusal::BrokenRule),
             };
         }
         Answered {
             table: self.table_valid(),
-            verdict: Verdict::Granted,
+            verdict: Ok(()),
         }
     }
 }

@@ -1,22 +1,26 @@
 // A table in lent lists: its entries put there, and the table that they are of.
 
-ghost use Rattle.std.specs.Prelude.{◌≡◌, true, ◌≤◌, length, replicate};
+ghost use Rattle.std.specs.Prelude.{◌≡◌, true, [], ◌≤◌, length};
 ghost use Rattle.limits.specs.Limits.{most_circuits};
 ghost use Rattle.ring.specs.Table.{meets_rules};
 ghost use Rattle.roster.specs.Held.{table_in, HoldsTable};
+ghost use Rattle.roster.specs.Listed.{Lists};
 
 use crate::Heading;
 use crate::lists::{file_all, places_of};
 use ring::RingTable;
 
-// Makes every number of a list 0.
-fn clear(list: &mut [u64])
-    ensures { list.new ≡ replicate (length list.old) 0 }
+// Puts the entries of a table into lists that have none.
+pub(crate) fn hold_first(keys: &mut [u64], rests: &mut [u64], table: RingTable) -> Heading
+    requires { (meets_rules table ≡ true) × Lists [] keys.old rests.old 0 }
+    ensures { HoldsTable table result keys.new rests.new }
 {
-    let mut i: usize = 0;
-    while i < list.len() {
-        list[i] = 0;
-        i += 1;
+    let count = file_all(keys, rests, table.channels);
+    let ports = table.ports;
+    Heading {
+        ports,
+        nodes: table.nodes,
+        count: count as u8,
     }
 }
 
@@ -25,17 +29,9 @@ pub fn hold(keys: &mut [u64], rests: &mut [u64], table: RingTable) -> Heading
     requires { (meets_rules table ≡ true) × (length keys.old ≡ most_circuits) × (length rests.old ≡ most_circuits) }
     ensures { HoldsTable table result keys.new rests.new }
 {
-    let nodes = table.nodes;
-    let ports = table.ports;
-    let channels = table.channels;
-    clear(keys);
-    clear(rests);
-    let count = file_all(keys, rests, channels);
-    Heading {
-        ports,
-        nodes,
-        count: count as u8,
-    }
+    keys.fill(0);
+    rests.fill(0);
+    hold_first(keys, rests, table)
 }
 
 // The table that lent lists are of.
@@ -43,12 +39,11 @@ pub fn table_in(heading: Heading, keys: &[u64], rests: &[u64]) -> RingTable
     requires { (heading.count ≤ length keys.now) × (heading.count ≤ length rests.now) }
     ensures { result ≡ table_in heading keys.now rests.now }
 {
+    let channels = places_of(keys, rests, usize::from(heading.count));
     let ports = heading.ports;
-    let nodes = heading.nodes;
-    let channels = places_of(keys, rests, heading.count as usize);
     RingTable {
         channels,
         ports,
-        nodes,
+        nodes: heading.nodes,
     }
 }

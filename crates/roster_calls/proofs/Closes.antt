@@ -5,7 +5,6 @@ use mathlib.Core.Bool.{true, false, not}
 use mathlib.Core.List.{List, [], ◌∷◌}
 use Rattle.channels.specs.Channels.{live}
 use Rattle.refusals.specs.declared.Refusal.TheVariants.{BrokenRule}
-use Rattle.refusals.specs.declared.Verdict.TheVariants.{Refused as refused}
 use Rattle.refusals.specs.Answer.{◌when◌, verdict_answer, answer_by}
 use Rattle.ring.specs.Closing.{close_of}
 use Rattle.ring.proofs.Numbers.{closes}
@@ -18,6 +17,7 @@ use Rattle.roster_open.specs.declared.ClosedIn.{ClosedIn}
 use Rattle.roster_calls.specs.Calls.{close_roster, close_roster_reasons}
 use Rattle.roster_calls.proofs.Standing.{held_arranged, held_stands}
 use Rattle.roster_calls.proofs.Lifted.{lifted_numbers, lifted_valid, lifted_refused}
+use Rattle.std.specs.Prelude.{Err}
 
 -- the answer in numbers
 abbrev Numbered : Roster → ℕ → Built → Type 0
@@ -41,7 +41,7 @@ module _ (r : Roster) (n : ℕ) where
 
   -- a roster that does not stand is met by 22
   abbrev kept : Built
-  kept = record { roster = r; verdict = refused BrokenRule }
+  kept = record { roster = r; verdict = Err BrokenRule }
 
   pub closes_refused : stands r ≡ false → (kept ≡ close_roster r n) × (Numbered r n kept × (stands r ≡ true → stands r ≡ true))
   closes_refused f = lifted_refused r _ _ (Numbered r n) roster_numbers kept f refl

@@ -16,7 +16,6 @@ use Rattle.ring.specs.Opening.{decide_of, open_of}
 use Rattle.ring.specs.Answer.{opening_answer}
 use Rattle.ring.specs.Numbers.{open_values}
 use Rattle.ring.specs.Demand3.{reasons, Demand3}
-use Rattle.ring.specs.declared.Opening.TheVariants.{Refused as not_opened}
 use Rattle.ring.proofs.Numbers.{open_numbers}
 use Rattle.ring.proofs.Demand.{demand3, demand3_open}
 use Rattle.roster.specs.declared.Roster.{Roster}
@@ -29,6 +28,7 @@ use Rattle.roster_calls.specs.Calls.{Decided, decision_arranged, decide_roster, 
 use Rattle.roster_calls.specs.Demand3.{Demand3Held, Demand3HeldLent}
 use Rattle.roster_calls.proofs.Standing.{stands_same, held_arranged, held_stands}
 use Rattle.roster_calls.proofs.Lifted.{lifted_given, lifted_by, lifted_numbers, lifted_valid, lifted_refused}
+use Rattle.std.specs.Prelude.{Err}
 
 -- the answer in numbers
 abbrev pub Numbered : Roster → Circuit → ℕ → Decided → Type 0
@@ -76,7 +76,7 @@ module _ (r : Roster) (c : Circuit) (n : ℕ) where
   -- a roster that does not stand is met by 22
   module _ (f : stands r ≡ false) (ms : Moves) (e : ms ≡ none) where
     abbrev kept : Decided
-    kept = record { opened = record { roster = r; answer = not_opened BrokenRule }; moves = ms }
+    kept = record { opened = record { roster = r; answer = Err BrokenRule }; moves = ms }
 
     pub opens_refused : (kept ≡ decide_roster r c n) × (Numbered r c n kept × (stands r ≡ true → Keeps r c n kept))
     opens_refused = lifted_refused r _ _ (Numbered r c n) roster_numbers kept f (rw e)

@@ -17,7 +17,6 @@ use Rattle.ring.specs.Answer.{tidying_answer}
 use Rattle.ring.specs.Numbers.{tidy_values}
 use Rattle.ring.specs.declared.RingTable.{RingTable}
 use Rattle.ring.specs.declared.TidyDecision.{TidyDecision}
-use Rattle.ring.specs.declared.Tidying.TheVariants.{Refused as not_tidied}
 use Rattle.ring.proofs.Rounds.{tidy_numbers, tidy_rules, tidies_by, tidies_lent}
 use Rattle.roster.specs.declared.Roster.{Roster}
 use Rattle.roster.specs.Roster.{arranged, table_of, stands}
@@ -27,6 +26,7 @@ use Rattle.roster_calls.specs.Calls.{TidyDecided, tidying_arranged, decide_tidy_
 use Rattle.roster_calls.specs.Tidies.{TidiesHeld, TidiesHeldLent}
 use Rattle.roster_calls.proofs.Standing.{tested, untested}
 use Rattle.roster_calls.proofs.Lifted.{lifted_given, lifted_by, lifted_numbers, lifted_valid, lifted_refused}
+use Rattle.std.specs.Prelude.{Err}
 
 -- the answer in numbers
 abbrev pub Numbered : Roster → ℕ → TidyDecided → Type 0
@@ -66,7 +66,7 @@ module _ (r : Roster) (n : ℕ) where
   -- a roster that does not stand is met by 22
   module _ (f : stands r ≡ false) (ms : MoveList) (e : ms ≡ list_of []) where
     abbrev kept : TidyDecided
-    kept = record { tidied = record { roster = r; answer = not_tidied BrokenRule }; moves = ms }
+    kept = record { tidied = record { roster = r; answer = Err BrokenRule }; moves = ms }
 
     pub tidies_refused : (kept ≡ decide_tidy_roster r n) × (Numbered r n kept × (stands r ≡ true → Keeps r n kept))
     tidies_refused = lifted_refused r _ _ (Numbered r n) roster_numbers kept f (rw e)

@@ -1,6 +1,6 @@
 -- 02, E7: "every call on the new one gives what the old one gives": each is the old call on the table that the roster is of, with the table
 -- after it arranged. "An arrangement that no old table gives is met by 22", and comes back as it was. Assumes nothing. What the calls promise.
-use Rattle.std.specs.Prelude.{ℕ, not, List, [], ◌∷◌, ltb, length}
+use Rattle.std.specs.Prelude.{ℕ, not, List, [], ◌∷◌, ltb, length, Err}
 use Rattle.basis.specs.Choice.{pick}
 use Rattle.lightpath.specs.declared.Circuit.{Circuit}
 use Rattle.channels.specs.Channels.{live}
@@ -9,7 +9,6 @@ use Rattle.moves.specs.MoveList.{list_of}
 use Rattle.moves.specs.declared.Move.{Move}
 use Rattle.refusals.specs.Answer.{Reason, ◌when◌}
 use Rattle.refusals.specs.declared.Refusal.TheVariants.{BrokenRule}
-use Rattle.refusals.specs.declared.Verdict.TheVariants.{Refused as refused}
 use Rattle.ring.specs.Making.{make_of}
 use Rattle.ring.specs.Opening.{decide_of, lent_after}
 use Rattle.ring.specs.Closing.{close_of}
@@ -18,10 +17,8 @@ use Rattle.ring.specs.Demand3.{reasons}
 use Rattle.ring.specs.declared.Answered.{Answered}
 use Rattle.ring.specs.declared.Decision.{Decision}
 use Rattle.ring.specs.declared.Opened as R
-use Rattle.ring.specs.declared.Opening.TheVariants.{Refused as not_opened}
 use Rattle.ring.specs.declared.TidyDecision.{TidyDecision}
 use Rattle.ring.specs.declared.Tidied as T
-use Rattle.ring.specs.declared.Tidying.TheVariants.{Refused as not_tidied}
 use Rattle.roster.specs.Roster.{arranged, table_of, stands, built_by}
 use Rattle.roster.specs.declared.Roster.{Roster}
 use Rattle.roster.specs.declared.Built.{Built}
@@ -47,16 +44,16 @@ tidying_arranged d = record { tidied = record { roster = arranged d.tidied.table
 -- an opening with a lent list of n records
 abbrev pub decide_roster : Roster → Circuit → ℕ → Decided
 decide_roster r c n =
-    pick (stands r) (decision_arranged (decide_of (table_of r) c n)) (record { opened = record { roster = r; answer = not_opened BrokenRule }; moves = none })
+    pick (stands r) (decision_arranged (decide_of (table_of r) c n)) (record { opened = record { roster = r; answer = Err BrokenRule }; moves = none })
 
 -- a closing
 abbrev pub close_roster : Roster → ℕ → Built
-close_roster r n = pick (stands r) (answered_arranged (close_of (table_of r) n)) (record { roster = r; verdict = refused BrokenRule })
+close_roster r n = pick (stands r) (answered_arranged (close_of (table_of r) n)) (record { roster = r; verdict = Err BrokenRule })
 
 -- a tidying with a lent list of n records
 abbrev pub decide_tidy_roster : Roster → ℕ → TidyDecided
 decide_tidy_roster r n =
-    pick (stands r) (tidying_arranged (decide_tidy_of (table_of r) n)) (record { tidied = record { roster = r; answer = not_tidied BrokenRule }; moves = list_of [] })
+    pick (stands r) (tidying_arranged (decide_tidy_of (table_of r) n)) (record { tidied = record { roster = r; answer = Err BrokenRule }; moves = list_of [] })
 
 -- and both with the list itself, which is afterwards as the old call leaves it
 abbrev pub open_roster : Roster → Circuit → List Move → Opened

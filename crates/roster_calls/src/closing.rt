@@ -5,29 +5,21 @@ ghost use Rattle.refusals.specs.Answer.{verdict_answer, answer_by};
 ghost use Rattle.roster.specs.Roster.{stands};
 ghost use Rattle.roster_calls.specs.Calls.{close_roster, close_roster_reasons};
 
-use refusals::{Refusal, Verdict};
+use refusals::Refusal;
 use roster::{Built, Roster};
 
 // A closing of a roster that stands, on a copy of its lists.
-pub fn close_valid(roster: Roster, number: u32) -> Built
+pub fn close_valid(mut roster: Roster, number: u32) -> Built
     requires { stands roster ≡ true }
     ensures answer { result ≡ close_roster roster number }
     ensures numbers { verdict_answer result.verdict ≡ answer_by (close_roster_reasons roster number) [] }
     ensures stands { stands result.roster ≡ true }
 {
-    let mut keys = roster.keys;
-    let mut rests = roster.rests;
-    let heading = roster.heading;
-    let closed = roster_open::close_in(heading, &mut keys, &mut rests, number);
-    let heading = closed.heading;
-    let verdict = closed.verdict;
+    let closed = roster_open::close_in(roster.heading, &mut roster.keys, &mut roster.rests, number);
+    roster.heading = closed.heading;
     Built {
-        roster: Roster {
-            keys,
-            rests,
-            heading,
-        },
-        verdict,
+        roster,
+        verdict: closed.verdict,
     }
 }
 
@@ -40,7 +32,7 @@ pub fn close(roster: Roster, number: u32) -> Built
     if !roster.stands() {
         return Built {
             roster,
-            verdict: Verdict::Refused(Refusal::BrokenRule),
+            verdict: Err(Refusal::BrokenRule),
         };
     }
     close_valid(roster, number)

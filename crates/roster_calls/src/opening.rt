@@ -13,34 +13,30 @@ use crate::{Decided, Opened};
 use lightpath::Circuit;
 use moves::Moves;
 use refusals::Refusal;
-use ring::Opening;
 use roster::Roster;
 
 // An opening of a roster that stands, on a copy of its lists.
-pub fn decide_valid(roster: Roster, circuit: Circuit, lent: usize) -> Decided
+pub fn decide_valid(mut roster: Roster, circuit: Circuit, lent: usize) -> Decided
     requires { stands roster ≡ true }
     ensures answer { result ≡ decide_roster roster circuit lent }
     ensures numbers { opening_answer result.opened.answer ≡ answer_by (open_roster_reasons roster circuit lent) (open_values (table_of roster) circuit) }
     ensures stands { stands result.opened.roster ≡ true }
     ensures demand3 { Demand3Held roster circuit lent result.opened (listed result.moves) }
 {
-    let mut keys = roster.keys;
-    let mut rests = roster.rests;
-    let heading = roster.heading;
-    let opened = roster_open::open_in(heading, &mut keys, &mut rests, circuit, lent);
-    let heading = opened.heading;
-    let answer = opened.answer;
-    let moves = opened.moves;
+    let opened = roster_open::open_in(
+        roster.heading,
+        &mut roster.keys,
+        &mut roster.rests,
+        circuit,
+        lent,
+    );
+    roster.heading = opened.heading;
     Decided {
         opened: Opened {
-            roster: Roster {
-                keys,
-                rests,
-                heading,
-            },
-            answer,
+            roster,
+            answer: opened.answer,
         },
-        moves,
+        moves: opened.moves,
     }
 }
 
@@ -54,7 +50,7 @@ pub fn decide(roster: Roster, circuit: Circuit, lent: usize) -> Decided
         return Decided {
             opened: Opened {
                 roster,
-                answer: Opening::Refused(Refusal::BrokenRule),
+                answer: Err(Refusal::BrokenRule),
             },
             moves: Moves::none(),
         };

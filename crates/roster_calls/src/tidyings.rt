@@ -12,7 +12,6 @@ ghost use Rattle.roster_calls.specs.Tidies.{TidiesHeld};
 use crate::{Tidied, TidyDecided};
 use moves::MoveList;
 use refusals::Refusal;
-use ring::Tidying;
 use roster::Roster;
 
 // A tidying by value, of a roster that stands.
@@ -25,16 +24,12 @@ pub fn decide_tidy_valid(roster: Roster, lent: usize) -> TidyDecided
 {
     let table = roster.table_valid();
     let decision = table.decide_tidy_valid(lent);
-    let tidied = decision.tidied;
-    let table = tidied.table;
-    let answer = tidied.answer;
-    let moves = decision.moves;
     TidyDecided {
         tidied: Tidied {
-            roster: Roster::of_valid(table),
-            answer,
+            roster: Roster::of_valid(decision.tidied.table),
+            answer: decision.tidied.answer,
         },
-        moves,
+        moves: decision.moves,
     }
 }
 
@@ -48,7 +43,7 @@ pub fn decide_tidy(roster: Roster, lent: usize) -> TidyDecided
         return TidyDecided {
             tidied: Tidied {
                 roster,
-                answer: Tidying::Refused(Refusal::BrokenRule),
+                answer: Err(Refusal::BrokenRule),
             },
             moves: MoveList::none(),
         };

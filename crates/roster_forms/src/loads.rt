@@ -15,8 +15,7 @@ pub fn report_valid(roster: Roster, out: &mut [u8]) -> Verdict
     ensures buffer { out.new ≡ report_roster_bytes roster out.old }
     ensures numbers { verdict_answer result ≡ answer_by (report_roster_reasons roster (length out.old)) [] }
 {
-    let table = roster.table_valid();
-    load::report_valid(table, out)
+    load::report_valid(roster.table_valid(), out)
 }
 
 // The load report: for link 1 to N the number of lightpaths clockwise and then counterclockwise, one byte each.
@@ -26,7 +25,7 @@ pub fn report(roster: Roster, out: &mut [u8]) -> Verdict
     ensures numbers { verdict_answer result ≡ answer_by (report_roster_reasons roster (length out.old)) [] }
 {
     if !roster.stands() {
-        return Verdict::Refused(Refusal::BrokenRule);
+        return Err(Refusal::BrokenRule);
     }
     report_valid(roster, out)
 }

@@ -6,6 +6,7 @@ use mathlib.Core.List.{List, [], ◌∷◌}
 use native.Mathlib.Omega.{arith}
 use lib.Dec.{eqb, ltb}
 use lib.ListN.{length, take}
+use lib.Seq.{length-take-le}
 use borrow.Author.Tests.{lt-ltb, le-ltb}
 use Rattle.basis.specs.Choice.{bit}
 use Rattle.basis.proofs.Bools.{bit_eq, bit_passes, all_map}
@@ -35,18 +36,15 @@ use Rattle.steps.proofs.Closing.{closes}
 use Rattle.plan.specs.declared.Planned.{Planned}
 use Rattle.plan.specs.Planned.{Plans, planned_of}
 use Rattle.plan.proofs.ByValue.{planned_count}
-use Rattle.refusals.specs.Refusal.{◌if◌, judged}
+use Rattle.refusals.specs.Refusal.{◌if◌, judged, Verdict}
 use Rattle.refusals.specs.declared.Refusal.{Refusal}
 use Rattle.refusals.specs.declared.Refusal.TheVariants.{ShortList, NotLive}
-use Rattle.refusals.specs.declared.Verdict.{Verdict}
-use Rattle.refusals.specs.declared.Verdict.TheVariants.{Granted as granted, Refused as refused}
 use Rattle.causes.specs.Causes.{named_causes}
-use Rattle.ring.specs.Opening.{used_causes, placing, refusing, decided_by, decide_of}
+use Rattle.ring.specs.Opening.{used_causes, placing, refusing, decided_by, decide_of, Opening}
 use Rattle.ring.specs.Closing.{close_of}
 use Rattle.ring.specs.declared.RingTable.{RingTable}
 use Rattle.ring.specs.declared.Decision.{Decision}
 use Rattle.ring.specs.declared.Answered.{Answered}
-use Rattle.ring.specs.declared.Opening.TheVariants.{Taken as taken, Refused as not_opened}
 use Rattle.ring.proofs.Placing.{placing_ready, placing_keeps}
 use Rattle.ring.proofs.Deciding.{decide_refused, decide_granted, named_granted}
 use Rattle.entries.specs.Entry.{in_fields}
@@ -62,6 +60,7 @@ use Rattle.roster.proofs.Listing.{lists_room}
 use Rattle.roster_open.specs.InPlace.{OpenedIn, OpensIn, ClosesIn, replaced_all, Replaces}
 use Rattle.roster_open.proofs.Moved.{number_in, entries_single, opened_entries, moved_there, without_at, closed_entries}
 use Rattle.roster_open.proofs.Replaced.{lists_without, taken_number, found_none, found_some, without_length}
+use Rattle.std.specs.Prelude.{Ok, Err}
 
 -- a circuit that was filed is within its fields
 new_fields : (p : ℕ) (c : Circuit) (es : List Standing) → All Written (filed (record { place = p; circuit = c }) es) → in_fields c ≡ true
@@ -177,7 +176,7 @@ module _ (h : Heading) (keys rests : List ℕ) (H : HoldsTable (table_in h keys 
               rw (opened_entries N ks chs facts c after plan.taken plan.moves k typed, ← taken_is) filed_lists
 
           pub opened_answer : OpensIn (placing t c) keys' rests'
-              (record { heading = record { ports = h.ports; nodes = h.nodes; count = h.count + 1 }; answer = taken p.place p.moves.count p.looks; moves = p.moves })
+              (record { heading = record { ports = h.ports; nodes = h.nodes; count = h.count + 1 }; answer = Ok (record { place = p.place; moves = p.moves.count; looks = p.looks }); moves = p.moves })
           opened_answer = record {
             answer = rw (planned_count N (limit_of ks) chs c p is.is) (answers is.is);
             moves = ap (λ (q : Planned). q.moves) is.is;
@@ -188,11 +187,12 @@ module _ (h : Heading) (keys rests : List ℕ) (H : HoldsTable (table_in h keys 
             };
           }
             where
-              answers : p ≡ planned_of plan → taken p.place (length plan.moves) p.looks ≡ taken (record { 0 = plan.taken }) (length plan.moves) plan.looks
-              answers e = λ i. taken (e i).place (length plan.moves) (e i).looks
+              answers : p ≡ planned_of plan
+                  → ◌≡◌ {A = Opening} (Ok (record { place = p.place; moves = length plan.moves; looks = p.looks })) (Ok (record { place = record { 0 = plan.taken }; moves = length plan.moves; looks = plan.looks }))
+              answers e = λ i. Ok (record { place = (e i).place; moves = length plan.moves; looks = (e i).looks })
 
   -- a refusal changes nothing
-  pub opened_refused : (r : Refusal) → OpensIn (refusing t r) keys rests (record { heading = h; answer = not_opened r; moves = none })
+  pub opened_refused : (r : Refusal) → OpensIn (refusing t r) keys rests (record { heading = h; answer = Err r; moves = none })
   opened_refused r = record { answer = refl; moves = refl; after = H }
 
   module _ (c : Circuit) where
@@ -202,60 +202,68 @@ module _ (h : Heading) (keys rests : List ℕ) (H : HoldsTable (table_in h keys 
 
     -- by what is in use
     module _ (w : Verdict) (in_use : w ≡ judged (used_causes t c)) where
-      pub named_served : (keys' rests' : List ℕ) (o : OpenedIn) → w ≡ granted → OpensIn (placing t c) keys' rests' o
+      pub named_served : (keys' rests' : List ℕ) (o : OpenedIn) → w ≡ Ok tt → OpensIn (placing t c) keys' rests' o
           → OpensIn (decided_by t c (judged (used_causes t c))) keys' rests' o
       named_served keys' rests' o e f = rw (← in_use, e) f
 
-      pub named_refused : (r : Refusal) (o : OpenedIn) → w ≡ refused r → o ≡ record { heading = h; answer = not_opened r; moves = none }
+      pub named_refused : (r : Refusal) (o : OpenedIn) → w ≡ Err r → o ≡ record { heading = h; answer = Err r; moves = none }
           → OpensIn (decided_by t c (judged (used_causes t c))) keys rests o
       named_refused r o e f = rw (← in_use, e, f) (opened_refused r)
 
     -- by the nodes that the request names
     module _ (n : ℕ) (v : Verdict) (is : v ≡ judged ((ShortList if ltb n least_records) ∷ named_causes N c)) where
-      pub open_named : v ≡ granted → judged (named_causes N c) ≡ granted
+      pub open_named : v ≡ Ok tt → judged (named_causes N c) ≡ Ok tt
       open_named e = named_granted N c n v is e
 
-      pub open_served : (keys' rests' : List ℕ) (o : OpenedIn) → v ≡ granted → OpensIn (decided_by t c (judged (used_causes t c))) keys' rests' o
+      pub open_served : (keys' rests' : List ℕ) (o : OpenedIn) → v ≡ Ok tt → OpensIn (decided_by t c (judged (used_causes t c))) keys' rests' o
           → OpensIn (decide_of t c n) keys' rests' o
       open_served keys' rests' o e f =
           subst (λ (d : Decision). OpensIn d keys' rests' o)
           (decide_granted t c n H.holds.rules v (decided_by t c (judged (used_causes t c))) is e refl) f
 
-      pub open_refused : (r : Refusal) (o : OpenedIn) → v ≡ refused r → o ≡ record { heading = h; answer = not_opened r; moves = none }
+      pub open_refused : (r : Refusal) (o : OpenedIn) → v ≡ Err r → o ≡ record { heading = h; answer = Err r; moves = none }
           → OpensIn (decide_of t c n) keys rests o
       open_refused r o e f =
-          rw f (subst (λ (d : Decision). OpensIn d keys rests (record { heading = h; answer = not_opened r; moves = none }))
+          rw f (subst (λ (d : Decision). OpensIn d keys rests (record { heading = h; answer = Err r; moves = none }))
           (decide_refused t c n H.holds.rules v r (refusing t r) is e refl) (opened_refused r))
 
-  module _ (n at : ℕ) (is : at ≡ numbered_at n (take h.count keys)) where
-    place : at ≡ first_place (λ e. eqb (number_in e) n) (entries chs)
-    place = taken_number n (entries chs) keys rests h.count at lists is
+  module _ (n : ℕ) where
+    -- as many keys are in use as there are entries
+    used : length (take h.count keys) ≡ h.count
+    used = length-take-le h.count keys within_keys
 
     -- a number that no entry has is not live
-    pub closed_missed : h.count ≤ at → ClosesIn (close_of t n) keys rests (record { heading = h; verdict = refused NotLive })
+    pub closed_missed : numbered_at n (take h.count keys) ≡ length (take h.count keys) → ClosesIn (close_of t n) keys rests (record { heading = h; verdict = Err NotLive })
     unfolding close_of
-    closed_missed l =
+    closed_missed none =
+        let place = taken_number n (entries chs) keys rests h.count h.count lists (sym (none ∙ used)) in
         let z : numbered n (circuits chs) ≡ 0 =
         omega (arith, entries_circuits chs (λ x. bit (eqb x.number n)), found_none n (entries chs) (omega (arith, place, lists.counted))) in
         let dead : live chs n ≡ false = le-ltb 0 (numbered n (circuits chs)) (omega (arith, z)) in
-        subst (λ (a : Answered). ClosesIn a keys rests (record { heading = h; verdict = refused NotLive }))
+        subst (λ (a : Answered). ClosesIn a keys rests (record { heading = h; verdict = Err NotLive }))
         (rw (H.holds.rules, dead)) (record { verdict = refl; after = H })
 
     -- another is taken out
-    module _ (l : at < h.count) where
+    module _ (at : ℕ) (found : (at ≡ numbered_at n (take h.count keys)) × (at < length (take h.count keys))) where
+      place : at ≡ first_place (λ e. eqb (number_in e) n) (entries chs)
+      place = taken_number n (entries chs) keys rests h.count at lists found.0
+
+      pub closed_within : at < h.count
+      closed_within = omega (arith, found.1, used)
+
       alive : live chs n ≡ true
       alive =
           lt-ltb 0 (numbered n (circuits chs))
-          (omega (arith, entries_circuits chs (λ x. bit (eqb x.number n)), found_some n (entries chs) (omega (arith, place, lists.counted))))
+          (omega (arith, entries_circuits chs (λ x. bit (eqb x.number n)), found_some n (entries chs) (omega (arith, place, closed_within, lists.counted))))
 
       kept : Kept N ks chs (circuit_of chs n ∷ []) [] (closed chs n) []
       kept = closes N ks chs facts n alive
 
       pub closed_found : (keys' rests' : List ℕ) → keys' ≡ take_out at h.count keys → rests' ≡ take_out at h.count rests
-          → ClosesIn (close_of t n) keys' rests' (record { heading = record { ports = h.ports; nodes = h.nodes; count = h.count - 1 }; verdict = granted })
+          → ClosesIn (close_of t n) keys' rests' (record { heading = record { ports = h.ports; nodes = h.nodes; count = h.count - 1 }; verdict = Ok tt })
       unfolding close_of
       closed_found keys' rests' a b =
-          subst (λ (x : Answered). ClosesIn x keys' rests' (record { heading = record { ports = h.ports; nodes = h.nodes; count = h.count - 1 }; verdict = granted }))
+          subst (λ (x : Answered). ClosesIn x keys' rests' (record { heading = record { ports = h.ports; nodes = h.nodes; count = h.count - 1 }; verdict = Ok tt }))
           (rw (H.holds.rules, alive))
           (record {
             verdict = refl;
@@ -274,14 +282,14 @@ module _ (h : Heading) (keys rests : List ℕ) (H : HoldsTable (table_in h keys 
 
           same : entries (closed chs n) ≡ without_at at (entries chs)
           same =
-              closed_entries N ks chs facts n (circuit_of chs n) number (closed chs n) kept typed (omega (arith, place, lists.counted))
+              closed_entries N ks chs facts n (circuit_of chs n) number (closed chs n) kept typed (omega (arith, place, closed_within, lists.counted))
               ∙ ap (λ i. without_at i (entries chs)) (sym place)
 
           fewer : length (without_at at (entries chs)) ≡ h.count - 1
-          fewer = omega (arith, lists.counted, without_length at (entries chs) (omega (arith, lists.counted)))
+          fewer = omega (arith, lists.counted, without_length at (entries chs) (omega (arith, closed_within, lists.counted)))
 
           after_lists : Lists (entries (closed chs n)) keys' rests' (h.count - 1)
-          after_lists = rw (same, a, b, ← fewer) (lists_without (entries chs) keys rests h.count at lists l)
+          after_lists = rw (same, a, b, ← fewer) (lists_without (entries chs) keys rests h.count at lists closed_within)
 
 -- the places that were built are those of the entries
 module _ (N m : ℕ) (keys rests : List ℕ) (count : ℕ) (c : Circuit) (built : Channels) (is : built ≡ places_of keys rests count) where
@@ -299,7 +307,7 @@ module _ (N m : ℕ) (keys rests : List ℕ) (count : ℕ) (c : Circuit) (built 
 
 -- a refusal by value
 pub refused_in : (h : Heading) (r : Refusal) (ms : Moves) → ms ≡ none
-    → ◌≡◌ {A = OpenedIn} (record { heading = h; answer = not_opened r; moves = ms }) (record { heading = h; answer = not_opened r; moves = none })
+    → ◌≡◌ {A = OpenedIn} (record { heading = h; answer = Err r; moves = ms }) (record { heading = h; answer = Err r; moves = none })
 refused_in h r ms e = rw e
 
 -- for `search (rules, planning)`
@@ -312,4 +320,4 @@ pub ruleset opening = (open_named, open_served, open_refused)
 pub ruleset placed = (within_keys, within_rests, placed_ready, opened_there, moved_listed, moved_room, moved_byte, opened_answer)
 
 -- for `search (rules, closing)`
-pub ruleset closing = (within_keys, within_rests, closed_missed, closed_found)
+pub ruleset closing = (within_keys, within_rests, closed_within, closed_missed, closed_found)

@@ -1,14 +1,19 @@
 -- Moved circuits found by their numbers among keys, and their rests with the new places. Assumes nothing.
 use Prim.Native.Nat.{ℕ, zero, suc, ◌+◌, ◌≤◌, ◌<◌}
-use mathlib.Core.Path.{◌≡◌, refl, sym, ap, subst, ◌∙◌}
+use mathlib.Core.Path.{◌≡◌, refl, sym, ap, ◌∙◌}
 use mathlib.Core.Bool.{Bool, true, false}
 use mathlib.Core.List.{List, [], ◌∷◌, ◌++◌, map}
 use native.Mathlib.Omega.{arith}
 use lib.Dec.{eqb}
 use lib.ListN.{length, get_or, take, drop, set, length-map}
+use lib.Seq.{take-suc, take_all}
+use native.Mathlib.Numerals.{add-one}
+use Rattle.std.proofs.Common.{min}
+use Rattle.std.proofs.lemmas.List.{length-take, take_min}
 use Rattle.basis.specs.Choice.{pick, bit}
 use Rattle.basis.specs.Count.{tally, All}
 use Rattle.basis.specs.Search.{first_place}
+use Rattle.basis.proofs.Bools.{all_left, all_right}
 use Rattle.basis.proofs.Compare.{eqb_swap}
 use Rattle.limits.specs.Limits.{place_count, most_circuits}
 use Rattle.channels.specs.declared.Standing.{Standing}
@@ -22,7 +27,7 @@ use Rattle.entries.proofs.Padded.{get_padded, set_padded, take_out_padded}
 use Rattle.roster.specs.Roster.{key_in}
 use Rattle.roster.specs.Listed.{Written, Lists}
 use Rattle.roster.proofs.Listing.{lists_keys}
-use Rattle.roster_open.specs.InPlace.{replaced, Single, Replaces}
+use Rattle.roster_open.specs.InPlace.{replaced, replaced_all, Single, Replaces}
 use Rattle.roster_open.proofs.Moved.{number_in, same_circuit_in, replaced_ordered, without_at, without_ordered, without_written}
 
 -- the position of a number among the keys is that among the entries
@@ -97,15 +102,16 @@ written_moved m (e ∷ es) l w = (one (eqb m.number (number_in e)), written_move
     one false = w.0
 
 -- one move
-module _ (keys rests : List ℕ) (count : ℕ) (m : Move) (at : ℕ) (is : at ≡ numbered_at m.number (take count keys)) where
-  pub replace_at : (v : ℕ) → at < count → v ≡ placed_at (get_or rests at 0) m.to.0 → Replaces (m ∷ []) keys rests count (set rests at v)
-  replace_at v l e = record { after = after }
+module _ (keys rests : List ℕ) (count : ℕ) (m : Move) where
+  pub replace_at : (at v : ℕ) → (at ≡ numbered_at m.number (take count keys)) × (at < length (take count keys)) → v ≡ placed_at (get_or rests at 0) m.to.0
+      → Replaces (m ∷ []) keys rests count (set rests at v)
+  replace_at at v found e = record { after = after }
     where
       after : (es : List Standing) → Single es → All (λ m. m.to.0 < place_count) (m ∷ []) → Lists es keys rests count
           → Lists (map (replaced m) es) keys (set rests at v) count
       after es single there h =
-          let place = taken_number m.number es keys rests count at h is in
-          let within : at < length es = omega (arith, h.counted) in
+          let place = taken_number m.number es keys rests count at h found.0 in
+          let within : at < length es = omega (arith, length-take count keys, found.1, h.counted) in
           let read : get_or rests at 0 ≡ get_or (map rest_of es) at 0 =
           rw h.rested (get_padded most_circuits at (map rest_of es) (omega (arith, length-map es rest_of))) in
           record {
@@ -120,17 +126,15 @@ module _ (keys rests : List ℕ) (count : ℕ) (m : Move) (at : ℕ) (is : at �
             written = written_moved m es there.0 h.written;
           }
 
-  pub replace_none : count ≤ at → Replaces (m ∷ []) keys rests count rests
-  replace_none l = record { after = after }
+  pub replace_none : numbered_at m.number (take count keys) ≡ length (take count keys) → Replaces (m ∷ []) keys rests count rests
+  replace_none none = record { after = after }
     where
       after : (es : List Standing) → Single es → All (λ m. m.to.0 < place_count) (m ∷ []) → Lists es keys rests count
           → Lists (map (replaced m) es) keys rests count
       after es single there h =
-          let place = taken_number m.number es keys rests count at h is in
-          rw (others m es (found_none m.number es (omega (arith, place, h.counted)))) h
-
--- for `search (rules, replacing)`
-pub ruleset replacing = (replace_at, replace_none)
+          let place = taken_number m.number es keys rests count (length (take count keys)) h (sym none) in
+          let all : length (take count keys) ≡ length es = ap length (lists_keys es keys rests count h) ∙ length-map es key_in in
+          rw (others m es (found_none m.number es (omega (arith, place, all)))) h
 
 -- several, one after the other
 single_moved : (m : Move) (es : List Standing) → Single es → Single (map (replaced m) es)
@@ -140,40 +144,35 @@ single_moved m es h n = omega (arith, same es, h n)
     same [] = refl
     same (e ∷ es) = omega (arith, ap (λ c. bit (eqb c.number n)) (same_circuit_in m e), same es)
 
-pub replaces_then : (m : Move) (ms : List Move) (keys rests rests' rests'' : List ℕ) (count : ℕ) → Replaces (m ∷ []) keys rests count rests'
-    → Replaces ms keys rests' count rests'' → Replaces (m ∷ ms) keys rests count rests''
-replaces_then m ms keys rests rests' rests'' count f g =
-    record { after = λ es single there h. g.after (map (replaced m) es) (single_moved m es single) there.1 (f.after es single (there.0, tt) h) }
+single_all : (ms : List Move) (es : List Standing) → Single es → Single (replaced_all ms es)
+single_all [] es h = h
+single_all (m ∷ ms) es h = single_all ms (map (replaced m) es) (single_moved m es h)
 
-module _ (keys rests : List ℕ) (count : ℕ) (a : Moves) where
-  pub replaces_none : a.count ≡ 0 → Replaces (listed a) keys rests count rests
-  replaces_none e = rw e (record { after = λ es single there h. h })
+replaced_append : (ms : List Move) (m : Move) (es : List Standing) → replaced_all (ms ++ (m ∷ [])) es ≡ map (replaced m) (replaced_all ms es)
+replaced_append [] m es = refl
+replaced_append (n ∷ ms) m es = replaced_append ms m (map (replaced n) es)
 
-  pub replaces_one : (r1 : List ℕ) → a.count ≡ 1 → Replaces (a.first ∷ []) keys rests count r1 → Replaces (listed a) keys rests count r1
-  replaces_one r1 e f = rw e f
+pub replaces_start : (ms : List Move) (keys rests : List ℕ) (count : ℕ) → Replaces (take 0 ms) keys rests count rests
+replaces_start ms keys rests count = record { after = λ es single there h. h }
 
-  pub replaces_two : (r1 r2 : List ℕ) → a.count ≡ 2 → Replaces (a.first ∷ []) keys rests count r1 → Replaces (a.second ∷ []) keys r1 count r2
-      → Replaces (listed a) keys rests count r2
-  replaces_two r1 r2 e f g = rw e (replaces_then a.first (a.second ∷ []) keys rests r1 r2 count f g)
+pub replaces_next : (ms : List Move) (d : Move) (i : ℕ) (keys rests rests' rests'' : List ℕ) (count : ℕ) → i < length ms → Replaces (take i ms) keys rests count rests'
+    → Replaces (get_or ms i d ∷ []) keys rests' count rests'' → Replaces (take (i + 1) ms) keys rests count rests''
+replaces_next ms d i keys rests rests' rests'' count l f g =
+    rw (add-one, take-suc ms i d l) (record {
+      after = λ es single there h.
+          let front = all_left (λ m. m.to.0 < place_count) (take i ms) (get_or ms i d ∷ []) there in
+          let last = all_right (λ m. m.to.0 < place_count) (take i ms) (get_or ms i d ∷ []) there in
+          rw replaced_append (g.after (replaced_all (take i ms) es) (single_all (take i ms) es single) last (f.after es single front h));
+    })
 
-  pub replaces_three : (r1 r2 r3 : List ℕ) → (a.count ≡ 0 → ⊥) → (a.count ≡ 1 → ⊥) → (a.count ≡ 2 → ⊥) → Replaces (a.first ∷ []) keys rests count r1
-      → Replaces (a.second ∷ []) keys r1 count r2 → Replaces (a.third ∷ []) keys r2 count r3 → Replaces (listed a) keys rests count r3
-  replaces_three r1 r2 r3 x y z f g h =
-      subst (λ (l : List Move). Replaces l keys rests count r3) (sym (three a.count x y z))
-      (replaces_then a.first (a.second ∷ a.third ∷ []) keys rests r1 r3 count f (replaces_then a.second (a.third ∷ []) keys r1 r2 r3 count g h))
-    where
-      three : (k : ℕ) → (k ≡ 0 → ⊥) → (k ≡ 1 → ⊥) → (k ≡ 2 → ⊥) → take k (a.first ∷ a.second ∷ a.third ∷ []) ≡ a.first ∷ a.second ∷ a.third ∷ []
-      three zero x y z = absurd (x refl)
-      three (suc zero) x y z = absurd (y refl)
-      three (suc (suc zero)) x y z = absurd (z refl)
-      three (suc (suc (suc k))) x y z = rw (none k)
-        where
-          none : (k : ℕ) → ◌≡◌ {A = List Move} (take k []) []
-          none zero = refl
-          none (suc k) = refl
-
--- for `search (rules, replacing_all)`
-pub ruleset replacing_all = (replaces_none, replaces_one, replaces_two, replaces_three)
+-- the first of three, as many as there are
+pub replaces_listed : (a : Moves) (n i : ℕ) (keys rests rests' : List ℕ) (count : ℕ) → n ≡ min a.count 3 → length (take n (a.first ∷ a.second ∷ a.third ∷ [])) ≤ i
+    → Replaces (take i (take n (a.first ∷ a.second ∷ a.third ∷ []))) keys rests count rests' → Replaces (listed a) keys rests count rests'
+replaces_listed a n i keys rests rests' count e l f =
+    let all : List Move = a.first ∷ a.second ∷ a.third ∷ [] in
+    let whole : take i (take n all) ≡ take n all = take_all i (take n all) l in
+    let same : take n all ≡ listed a = rw e (take_min a.count all) in
+    rw (whole, same) at f
 
 map_without : {B : Type 0} (f : Standing → B) (i : ℕ) (es : List Standing) → map f (without_at i es) ≡ take i (map f es) ++ drop (suc i) (map f es)
 map_without f zero [] = refl

@@ -4,17 +4,16 @@ ghost use Rattle.std.specs.Prelude.{[], ◌∷◌, ◌≤◌, length};
 ghost use Rattle.moves.specs.Records.{listed};
 ghost use Rattle.roster_open.specs.InPlace.{Replaces};
 
-use moves::{Move, Moves};
+use moves::{MOST_MOVES, Move, Moves};
 
 // The entry of a circuit that has moved gets its new place.
 fn replace(keys: &[u64], rests: &mut [u64], count: usize, moved: Move)
     requires { (count ≤ length keys.now) × (count ≤ length rests.old) }
     ensures { Replaces (moved ∷ []) keys.now rests.old count rests.new }
 {
-    let at = entries::find_number(keys, count, moved.number);
-    if at < count {
+    if let Some(at) = entries::find_number(&keys[..count], moved.number) {
         let place = moved.to;
-        rests[at] = entries::placed_at(rests[at], place.0 as usize);
+        rests[at] = entries::placed_at(rests[at], usize::from(place.0));
     }
 }
 
@@ -23,16 +22,9 @@ pub fn replace_all(keys: &[u64], rests: &mut [u64], count: usize, moves: Moves)
     requires { (count ≤ length keys.now) × (count ≤ length rests.old) }
     ensures { Replaces (listed moves) keys.now rests.old count rests.new }
 {
-    if moves.count == 0 {
-        return;
+    let most = usize::from(moves.count).min(MOST_MOVES);
+    let all = [moves.first, moves.second, moves.third];
+    for moved in &all[..most] {
+        replace(keys, rests, count, *moved);
     }
-    replace(keys, rests, count, moves.first);
-    if moves.count == 1 {
-        return;
-    }
-    replace(keys, rests, count, moves.second);
-    if moves.count == 2 {
-        return;
-    }
-    replace(keys, rests, count, moves.third);
 }

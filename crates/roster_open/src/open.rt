@@ -1,6 +1,6 @@
 // Opening a circuit, and placing one with nothing asked, in place.
 
-ghost use Rattle.std.specs.Prelude.{◌≡◌};
+ghost use Rattle.std.specs.Prelude.{◌≡◌, Ok, Err};
 ghost use Rattle.moves.specs.Records.{none};
 ghost use Rattle.ports.specs.Ports.{limit_of};
 ghost use Rattle.rules.specs.Allowable.{Allowable};
@@ -9,10 +9,8 @@ ghost use Rattle.steps.specs.Ready.{Ready};
 ghost use Rattle.survey.specs.Survey.{survey_of};
 ghost use Rattle.plan.specs.Planned.{Plans};
 ghost use Rattle.refusals.specs.Refusal.{judged};
-ghost use Rattle.refusals.specs.declared.Verdict.TheVariants.{Granted as granted};
 ghost use Rattle.causes.specs.Causes.{named_causes};
 ghost use Rattle.ring.specs.Opening.{used_causes, placing, decided_by, decide_of};
-ghost use Rattle.ring.specs.declared.Opening.TheVariants.{Refused as not_opened};
 ghost use Rattle.roster.specs.Roster.{places_of};
 ghost use Rattle.roster.specs.Held.{table_in, HoldsTable};
 ghost use Rattle.roster_open.specs.InPlace.{OpensIn};
@@ -22,18 +20,18 @@ use crate::entries_moved::replace_all;
 use lightpath::Circuit;
 use moves::Moves;
 use plan::Planned;
-use refusals::{Refusal, Verdict};
-use ring::Opening;
+use refusals::Refusal;
+use ring::Taken;
 use roster::Heading;
 use survey::Survey;
 
 // Nothing changes, and the refusal.
 fn refuse(heading: Heading, refusal: Refusal) -> OpenedIn
-    ensures { result ≡ record { heading = heading; answer = not_opened refusal; moves = none } }
+    ensures { result ≡ record { heading = heading; answer = Err refusal; moves = none } }
 {
     OpenedIn {
         heading,
-        answer: Opening::Refused(refusal),
+        answer: Err(refusal),
         moves: Moves::none(),
     }
 }
@@ -76,7 +74,6 @@ fn place_seen(
     ensures { OpensIn (placing (table_in heading keys.old rests.old) circuit) keys.new rests.new result }
 {
     let planned = plan_in(heading, limit, keys, rests, circuit, seen);
-    let ports = heading.ports;
     let count = heading.count as usize;
     let place = planned.place;
     let moves = planned.moves;
@@ -85,15 +82,14 @@ fn place_seen(
     let filed = heading.count + 1;
     OpenedIn {
         heading: Heading {
-            ports,
-            nodes: heading.nodes,
             count: filed,
+            ..heading
         },
-        answer: Opening::Taken {
+        answer: Ok(Taken {
             place,
             moves: moves.count,
             looks: planned.looks,
-        },
+        }),
         moves,
     }
 }
@@ -103,24 +99,21 @@ pub fn place_in(heading: Heading, keys: &mut [u64], rests: &mut [u64], circuit: 
     requires { HoldsTable (table_in heading keys.old rests.old) heading keys.old rests.old × Allowable heading.nodes heading.ports (places_of keys.old rests.old heading.count) circuit }
     ensures { OpensIn (placing (table_in heading keys.old rests.old) circuit) keys.new rests.new result }
 {
-    let ports = heading.ports;
-    let limit = ports::place_limit(ports);
+    let limit = ports::place_limit(heading.ports);
     let seen = roster_survey::survey_entries(heading, limit, keys, rests, circuit);
     place_seen(heading, keys, rests, circuit, limit, seen)
 }
 
 // An opening of a request that names two nodes of the ring: by what is seen of the entries.
 fn open_named(heading: Heading, keys: &mut [u64], rests: &mut [u64], circuit: Circuit) -> OpenedIn
-    requires { HoldsTable (table_in heading keys.old rests.old) heading keys.old rests.old × (judged (named_causes heading.nodes circuit) ≡ granted) }
+    requires { HoldsTable (table_in heading keys.old rests.old) heading keys.old rests.old × (judged (named_causes heading.nodes circuit) ≡ Ok tt) }
     ensures { OpensIn (decided_by (table_in heading keys.old rests.old) circuit (judged (used_causes (table_in heading keys.old rests.old) circuit))) keys.new rests.new result }
 {
-    let ports = heading.ports;
-    let limit = ports::place_limit(ports);
+    let limit = ports::place_limit(heading.ports);
     let seen = roster_survey::survey_entries(heading, limit, keys, rests, circuit);
-    let verdict = causes::used_verdict(ports, circuit, seen);
-    match verdict {
-        Verdict::Granted => place_seen(heading, keys, rests, circuit, limit, seen),
-        Verdict::Refused(refusal) => refuse(heading, refusal),
+    match causes::used_verdict(heading.ports, circuit, seen) {
+        Ok(()) => place_seen(heading, keys, rests, circuit, limit, seen),
+        Err(refusal) => refuse(heading, refusal),
     }
 }
 
@@ -135,9 +128,8 @@ pub fn open_in(
     requires { HoldsTable (table_in heading keys.old rests.old) heading keys.old rests.old }
     ensures { OpensIn (decide_of (table_in heading keys.old rests.old) circuit lent) keys.new rests.new result }
 {
-    let verdict = causes::named_verdict(heading.nodes, circuit, lent);
-    match verdict {
-        Verdict::Granted => open_named(heading, keys, rests, circuit),
-        Verdict::Refused(refusal) => refuse(heading, refusal),
+    match causes::named_verdict(heading.nodes, circuit, lent) {
+        Ok(()) => open_named(heading, keys, rests, circuit),
+        Err(refusal) => refuse(heading, refusal),
     }
 }

@@ -9,6 +9,8 @@ use lib.Dec.{eqb}
 use lib.ListN.{length, take}
 use lib.Seq.{take-append_seam}
 use borrow.Author.Tests.{eqb-true, ne_eqb}
+use Rattle.std.proofs.Common.{Option, Some, None, Result, Ok, Err}
+use Rattle.refusals.specs.declared.Refusal.{Refusal}
 use Rattle.basis.specs.Choice.{pick}
 use Rattle.basis.specs.Count.{weigh}
 use Rattle.basis.proofs.Bools.{all_map}
@@ -24,7 +26,7 @@ use Rattle.roster.proofs.Standings.{entered, entries_weigh}
 use Rattle.roster.proofs.Arranged.{stands_rules, table_typed}
 use Rattle.rows.specs.Row.{row_of}
 use Rattle.rows.proofs.Rows.{Numbered, row_sends, row_rises}
-use Rattle.roster_rows.specs.Lookups.{Lookup, found, nothing, not_asked, sent_by, row_of_roster, numbered, circuit_of_roster}
+use Rattle.roster_rows.specs.Lookups.{sent_by, row_of_roster, numbered, circuit_of_roster}
 
 -- a row weighs what the entries of its node do
 row_weighs : (v : Standing → ℕ) (node : ℕ) (es : List Standing) → weigh v (row_of node es) ≡ weigh (keyed (λ m. m.circuit.source) node v) es
@@ -65,18 +67,18 @@ module _ (r : Roster) (s : stands r ≡ true) (node : ℕ) where
   row_exact on = rw (s, on, take-append_seam (sent_by r node)) sent_exact
 
 -- the circuit of a lookup by number, if there is one
-abbrev pub given : Lookup → List Standing
-given (found m) = m ∷ []
-given nothing = []
-given (not_asked x) = []
+abbrev pub given : Result (Option Standing) Refusal → List Standing
+given (Ok (Some m)) = m ∷ []
+given (Ok None) = []
+given (Err x) = []
 
 -- where numbers rise, it is all that have the number
-numbered_weighs : (v : Standing → ℕ) (n : ℕ) (ms : List Standing) → Numbered ms → weigh v (given (numbered n ms)) ≡ weigh (keyed (λ m. m.circuit.number) n v) ms
+numbered_weighs : (v : Standing → ℕ) (n : ℕ) (ms : List Standing) → Numbered ms → weigh v (given (Ok (numbered n ms))) ≡ weigh (keyed (λ m. m.circuit.number) n v) ms
 numbered_weighs v n [] h = refl
 numbered_weighs v n (m ∷ ms) h = go (eqb m.circuit.number n) refl (numbered_weighs v n ms h.1)
   where
-    go : (o : Bool) → eqb m.circuit.number n ≡ o → weigh v (given (numbered n ms)) ≡ weigh (keyed (λ m. m.circuit.number) n v) ms
-        → weigh v (given (pick o (found m) (numbered n ms))) ≡ pick o (v m) 0 + weigh (keyed (λ m. m.circuit.number) n v) ms
+    go : (o : Bool) → eqb m.circuit.number n ≡ o → weigh v (given (Ok (numbered n ms))) ≡ weigh (keyed (λ m. m.circuit.number) n v) ms
+        → weigh v (given (Ok (pick o (Some m) (numbered n ms)))) ≡ pick o (v m) 0 + weigh (keyed (λ m. m.circuit.number) n v) ms
     go true e rest = omega (arith, none_weigh (keyed (λ m. m.circuit.number) n v) ms (all_map _ _ other ms h.0))
       where
         other : (x : Standing) → m.circuit.number < x.circuit.number → keyed (λ m. m.circuit.number) n v x ≡ 0

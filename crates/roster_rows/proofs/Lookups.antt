@@ -10,6 +10,7 @@ use lib.Seq.{take-append_seam, length-take-le, get_or-take}
 use mir.Syntax.{w64}
 use mir.Val.{Fits}
 use borrow.Author.Tests.{not-true, not-false}
+use Rattle.std.proofs.Common.{Option, Some, None, Result, Ok, Err}
 use Rattle.basis.specs.Choice.{pick}
 use Rattle.basis.specs.Search.{first_place}
 use Rattle.basis.proofs.Bools.{all_map}
@@ -22,7 +23,6 @@ use Rattle.refusals.specs.Refusal.{number_of}
 use Rattle.refusals.specs.Answer.{Answer, refusal, done, ◌when◌, answer_by}
 use Rattle.refusals.specs.declared.Refusal.{Refusal}
 use Rattle.refusals.specs.declared.Refusal.TheVariants.{OffRing, BrokenRule}
-use Rattle.refusals.specs.declared.Verdict.TheVariants.{Granted as granted, Refused as refused}
 use Rattle.rules.proofs.Rules.{rules_hold}
 use Rattle.entries.specs.Entry.{entry_of, in_fields}
 use Rattle.entries.specs.Lists.{Rising}
@@ -35,10 +35,11 @@ use Rattle.roster.proofs.Holding.{held_most}
 use Rattle.rows.specs.Row.{row_of, row_in, position_in}
 use Rattle.rows.specs.declared.Row.{Row}
 use Rattle.rows.proofs.Rows.{row_sends, position_entry}
-use Rattle.rows.proofs.Held.{sends_most, held_rising, held_order, held_keyed, held_rested, keys_long, rests_same, held_sends, held_row, held_room_lem}
+use Rattle.rows.proofs.Held.{sends_most, held_used, held_ordered, held_order, held_keyed, held_rested, keys_long, rests_same, held_sends, held_row, held_room_lem}
 use Rattle.roster_calls.proofs.Standing.{roster_holds}
-use Rattle.roster_rows.specs.Lookups.{Sent, Lookup, found, nothing, not_asked, sent_by, in_room, sent_of, looked, row_of_roster, numbered, circuit_of_roster, lookup_reasons, circuit_values, row_answer, lookup_answer}
+use Rattle.roster_rows.specs.Lookups.{Sent, sent_by, in_room, sent_of, looked, row_of_roster, numbered, circuit_of_roster, lookup_reasons, circuit_values, row_answer, lookup_answer}
 use Rattle.roster_rows.proofs.Gathering.{blank}
+use Rattle.std.specs.Prelude.{Ok, Err}
 
 -- an entry of keys and rests is of the two at its position
 get_entry : (i : ℕ) (keys rests : List ℕ) (d : Standing) → i < length keys → i < length rests
@@ -53,36 +54,36 @@ abbrev placed : ℕ → ℕ → List Standing → ℕ
 placed node n es = first_place (λ m. eqb m.circuit.source node && eqb m.circuit.number n) es
 
 -- it is the one of that number in the node's row
-numbered_there : (node n : ℕ) (es : List Standing) (d : Standing) → placed node n es < length es → numbered n (row_of node es) ≡ found (get_or es (placed node n es) d)
+numbered_there : (node n : ℕ) (es : List Standing) (d : Standing) → placed node n es < length es → numbered n (row_of node es) ≡ Some (get_or es (placed node n es) d)
 numbered_there node n [] d h = absurd (omega arith)
 numbered_there node n (m ∷ es) d h = go (eqb m.circuit.source node) (eqb m.circuit.number n) refl h (numbered_there node n es d)
   where
     go : (s o : Bool) → eqb m.circuit.number n ≡ o → pick (s && o) 0 (suc (placed node n es)) < suc (length es)
-        → (placed node n es < length es → numbered n (row_of node es) ≡ found (get_or es (placed node n es) d))
-        → numbered n (pick s (m ∷ row_of node es) (row_of node es)) ≡ found (get_or (m ∷ es) (pick (s && o) 0 (suc (placed node n es))) d)
+        → (placed node n es < length es → numbered n (row_of node es) ≡ Some (get_or es (placed node n es) d))
+        → numbered n (pick s (m ∷ row_of node es) (row_of node es)) ≡ Some (get_or (m ∷ es) (pick (s && o) 0 (suc (placed node n es))) d)
     go true true e h rest = rw e
     go true false e h rest = rw e (rest (omega arith))
     go false o e h rest = rest (omega arith)
 
 -- and where there is none, the row has none
-numbered_nowhere : (node n : ℕ) (es : List Standing) → length es ≤ placed node n es → numbered n (row_of node es) ≡ nothing
+numbered_nowhere : (node n : ℕ) (es : List Standing) → length es ≤ placed node n es → numbered n (row_of node es) ≡ None
 numbered_nowhere node n [] h = refl
 numbered_nowhere node n (m ∷ es) h = go (eqb m.circuit.source node) (eqb m.circuit.number n) refl h (numbered_nowhere node n es)
   where
     go : (s o : Bool) → eqb m.circuit.number n ≡ o → suc (length es) ≤ pick (s && o) 0 (suc (placed node n es))
-        → (length es ≤ placed node n es → numbered n (row_of node es) ≡ nothing)
-        → numbered n (pick s (m ∷ row_of node es) (row_of node es)) ≡ nothing
+        → (length es ≤ placed node n es → numbered n (row_of node es) ≡ None)
+        → numbered n (pick s (m ∷ row_of node es) (row_of node es)) ≡ None
     go true true e h rest = absurd (omega arith)
     go true false e h rest = rw e (rest (omega arith))
     go false o e h rest = rest (omega arith)
 
 -- it is no refusal
-numbered_done : (n : ℕ) (ms : List Standing) → lookup_answer (numbered n ms) ≡ done (lookup_answer (numbered n ms)).values
+numbered_done : (n : ℕ) (ms : List Standing) → lookup_answer (Ok (numbered n ms)) ≡ done (lookup_answer (Ok (numbered n ms))).values
 numbered_done n [] = refl
 numbered_done n (m ∷ ms) = go (eqb m.circuit.number n) (numbered_done n ms)
   where
-    go : (o : Bool) → lookup_answer (numbered n ms) ≡ done (lookup_answer (numbered n ms)).values
-        → lookup_answer (pick o (found m) (numbered n ms)) ≡ done (lookup_answer (pick o (found m) (numbered n ms))).values
+    go : (o : Bool) → lookup_answer (Ok (numbered n ms)) ≡ done (lookup_answer (Ok (numbered n ms))).values
+        → lookup_answer (Ok (pick o (Some m) (numbered n ms))) ≡ done (lookup_answer (Ok (pick o (Some m) (numbered n ms)))).values
     go true e = refl
     go false e = e
 
@@ -95,8 +96,11 @@ module _ (r : Roster) (s : stands r ≡ true) where
   held = (roster_holds r s).holds
 
   -- its keys in use are there and rise
-  pub keys_rise : (r.heading.count ≤ length r.keys) × Rising (take r.heading.count r.keys)
-  keys_rise = held_rising _ _ _ _ _ _ held
+  pub keys_used : r.heading.count ≤ length r.keys
+  keys_used = held_used _ _ _ _ _ _ held
+
+  pub keys_rise : Rising (take r.heading.count r.keys)
+  keys_rise = held_ordered _ _ _ _ _ _ held
 
   few : r.heading.count ≤ most_circuits
   few = held_most _ _ _ _ (roster_holds r s)
@@ -145,28 +149,37 @@ module _ (r : Roster) (s : stands r ≡ true) where
     row_counts = held_sends _ _ _ _ _ _ held node w e ∙ sym (row_sends node places)
 
   -- the position of a number in it
-  module _ (node n : ℕ) (small : n < 2 ^ 32) (at : ℕ) (e : at ≡ position_in (take r.heading.count r.keys) node n) where
+  module _ (node n : ℕ) (small : n < 2 ^ 32) where
     abbrev es : List Standing
     es = entries places
 
-    here : at ≡ placed node n es
+    abbrev used : List ℕ
+    used = take r.heading.count r.keys
+
+    many : length used ≡ r.heading.count
+    many = length-take-le r.heading.count r.keys keys_used
+
+    here : position_in used node n ≡ placed node n es
     here =
         let l = holds_lists _ _ _ _ _ _ held in
-        e ∙ ap (λ keys. position_in keys node n) (held_keys _ _ _ _ _ _ held)
+        ap (λ keys. position_in keys node n) (held_keys _ _ _ _ _ _ held)
         ∙ position_entry node n es small (all_map Written (λ m. in_fields m.circuit ≡ true) (λ m w. w.0) es l.written)
 
     -- nowhere, or at an entry
-    number_none : r.heading.count ≤ at → numbered n (sent_by r node) ≡ nothing
+    number_none : position_in used node n ≡ length used → numbered n (sent_by r node) ≡ None
     unfolding table_of
-    number_none h = numbered_nowhere node n es (omega (arith, here, held.counted))
+    number_none h = numbered_nowhere node n es (omega (arith, here, many, held.counted))
 
-    module _ (h : at < r.heading.count) where
+    module _ (at : ℕ) (f : (at ≡ position_in used node n) × (at < length used)) where
+      h : at < r.heading.count
+      h = omega (arith, f.1, many)
+
       pub number_index : at < most_circuits
-      number_index = omega (arith, few)
+      number_index = omega (arith, f.1, many, few)
 
-      number_there : numbered n (sent_by r node) ≡ found (entry_of (get_or r.keys at 0) (get_or r.rests at 0))
+      number_there : numbered n (sent_by r node) ≡ Some (entry_of (get_or r.keys at 0) (get_or r.rests at 0))
       unfolding table_of
-      number_there = numbered_there node n es blank (omega (arith, here, held.counted)) ∙ ap found (rw (← here) entry)
+      number_there = numbered_there node n es blank (omega (arith, here, f.0, f.1, many, held.counted)) ∙ ap Some (rw (← here, ← f.0) entry)
         where
           count : ℕ
           count = r.heading.count
@@ -199,8 +212,8 @@ module _ (r : Roster) (node : ℕ) where
   abbrev pub RowAnswered : Sent → Type 0
   RowAnswered s = (s ≡ row_of_roster r node) × (row_answer s ≡ answer_by (lookup_reasons r node) (circuit_values (sent_by r node)))
 
-  abbrev pub CircuitAnswered : ℕ → Lookup → Type 0
-  CircuitAnswered n a = (a ≡ circuit_of_roster r node n) × (lookup_answer a ≡ answer_by (lookup_reasons r node) (lookup_answer (numbered n (sent_by r node))).values)
+  abbrev pub CircuitAnswered : ℕ → Result (Option Standing) Refusal → Type 0
+  CircuitAnswered n a = (a ≡ circuit_of_roster r node n) × (lookup_answer a ≡ answer_by (lookup_reasons r node) (lookup_answer (Ok (numbered n (sent_by r node)))).values)
 
   -- what is as defined has these numbers
   row_is : (s : Sent) → s ≡ row_of_roster r node → RowAnswered s
@@ -208,36 +221,36 @@ module _ (r : Roster) (node : ℕ) where
   row_is s e = (
     e,
     ap row_answer e
-        ∙ in_numbers_lem row_answer (λ x. sent_of [] (refused x)) (sent_of (sent_by r node) granted) (circuit_values (sent_by r node)) (λ x. refl) (rw (take-append_seam (sent_by r node))),
+        ∙ in_numbers_lem row_answer (λ x. sent_of [] (Err x)) (sent_of (sent_by r node) (Ok tt)) (circuit_values (sent_by r node)) (λ x. refl) (rw (take-append_seam (sent_by r node))),
   )
 
-  circuit_is : (n : ℕ) (a : Lookup) → a ≡ circuit_of_roster r node n → CircuitAnswered n a
+  circuit_is : (n : ℕ) (a : Result (Option Standing) Refusal) → a ≡ circuit_of_roster r node n → CircuitAnswered n a
   unfolding circuit_of_roster
   circuit_is n a e = (
     e,
-    ap lookup_answer e ∙ in_numbers_lem lookup_answer not_asked (numbered n (sent_by r node)) _ (λ x. refl) (numbered_done n (sent_by r node)),
+    ap lookup_answer e ∙ in_numbers_lem lookup_answer (λ x. Err x) (Ok (numbered n (sent_by r node))) _ (λ x. refl) (numbered_done n (sent_by r node)),
   )
 
   -- a roster that does not stand is met by 22
   module _ (fails : stands r ≡ false) where
-    pub row_fails : (s : Sent) → s ≡ sent_of [] (refused BrokenRule) → RowAnswered s
+    pub row_fails : (s : Sent) → s ≡ sent_of [] (Err BrokenRule) → RowAnswered s
     unfolding row_of_roster
     row_fails s e = row_is s (e ∙ rw fails)
 
-    pub circuit_fails : (n : ℕ) → CircuitAnswered n (not_asked BrokenRule)
+    pub circuit_fails : (n : ℕ) → CircuitAnswered n (Err BrokenRule)
     unfolding circuit_of_roster
-    circuit_fails n = circuit_is n (not_asked BrokenRule) (rw fails)
+    circuit_fails n = circuit_is n (Err BrokenRule) (rw fails)
 
   module _ (s : stands r ≡ true) where
     -- then a node off the ring by 10
     module _ (off : on_ring r.heading.nodes node ≡ false) where
-      pub row_off : (a : Sent) → a ≡ sent_of [] (refused OffRing) → RowAnswered a
+      pub row_off : (a : Sent) → a ≡ sent_of [] (Err OffRing) → RowAnswered a
       unfolding row_of_roster table_of
       row_off a e = row_is a (e ∙ rw (s, off))
 
-      pub circuit_off : (n : ℕ) → CircuitAnswered n (not_asked OffRing)
+      pub circuit_off : (n : ℕ) → CircuitAnswered n (Err OffRing)
       unfolding circuit_of_roster table_of
-      circuit_off n = circuit_is n (not_asked OffRing) (rw (s, off))
+      circuit_off n = circuit_is n (Err OffRing) (rw (s, off))
 
     module _ (on : on_ring r.heading.nodes node ≡ true) where
       inside : on_ring (table_of r).nodes node ≡ true
@@ -247,22 +260,23 @@ module _ (r : Roster) (node : ℕ) where
       -- the row of a node of the ring, gathered from its start to its end
       pub row_there : (w : Row) → w ≡ row_in (take r.heading.count r.keys) node → (list : List Standing)
           → list ≡ in_room (entries_in (take (w.end - w.start) (drop w.start r.keys)) (take (w.end - w.start) (drop w.start r.rests)))
-          → RowAnswered (record { list = list; count = w.end - w.start; verdict = granted })
+          → RowAnswered (record { list = list; count = w.end - w.start; verdict = Ok tt })
       unfolding row_of_roster
       row_there w e list l = row_is _ (same ∙ rw (s, inside))
         where
-          same : ◌≡◌ {A = Sent} (record { list = list; count = w.end - w.start; verdict = granted }) (sent_of (sent_by r node) granted)
-          same = λ i. record { list = (l ∙ ap in_room (row_has r s node w e)) i; count = row_counts r s node w e i; verdict = granted }
+          same : ◌≡◌ {A = Sent} (record { list = list; count = w.end - w.start; verdict = Ok tt }) (sent_of (sent_by r node) (Ok tt))
+          same = λ i. record { list = (l ∙ ap in_room (row_has r s node w e)) i; count = row_counts r s node w e i; verdict = Ok tt }
 
       -- and the circuit of a number in it
-      module _ (n : ℕ) (small : n < 2 ^ 32) (at : ℕ) (e : at ≡ position_in (take r.heading.count r.keys) node n) where
-        pub circuit_none : r.heading.count ≤ at → CircuitAnswered n nothing
+      module _ (n : ℕ) (small : n < 2 ^ 32) where
+        pub circuit_none : position_in (take r.heading.count r.keys) node n ≡ length (take r.heading.count r.keys) → CircuitAnswered n (Ok None)
         unfolding circuit_of_roster
-        circuit_none h = circuit_is n nothing (sym (number_none r s node n small at e h) ∙ rw (s, inside))
+        circuit_none h = circuit_is n (Ok None) (ap Ok (sym (number_none r s node n small h)) ∙ rw (s, inside))
 
-        pub circuit_there : at < r.heading.count → (m : Standing) → m ≡ entry_of (get_or r.keys at 0) (get_or r.rests at 0) → CircuitAnswered n (found m)
+        pub circuit_there : (at : ℕ) → (at ≡ position_in (take r.heading.count r.keys) node n) × (at < length (take r.heading.count r.keys)) → (m : Standing)
+            → m ≡ entry_of (get_or r.keys at 0) (get_or r.rests at 0) → CircuitAnswered n (Ok (Some m))
         unfolding circuit_of_roster
-        circuit_there h m f = circuit_is n (found m) (ap found f ∙ sym (number_there r s node n small at e h) ∙ rw (s, inside))
+        circuit_there at h m f = circuit_is n (Ok (Some m)) (ap Ok (ap Some f ∙ sym (number_there r s node n small at h)) ∙ rw (s, inside))
 
 -- for `search (rules, looking)`
-pub ruleset looking = (keys_rise, row_order, row_keyed, row_rested, row_scaled, row_same, row_few, number_index, said, not-true, not-false)
+pub ruleset looking = (keys_used, keys_rise, row_order, row_keyed, row_rested, row_scaled, row_same, row_few, said, not-true, not-false)

@@ -3,7 +3,7 @@
 
 #![tactic(auto)]
 
-ghost use Rattle.std.specs.Prelude.{◌≡◌, true, [], ◌≤◌, length};
+ghost use Rattle.std.specs.Prelude.{◌≡◌, true, [], ◌≤◌, length, Ok, Err};
 ghost use Rattle.limits.specs.Limits.{most_ports};
 ghost use Rattle.refusals.specs.Answer.{answer_by};
 ghost use Rattle.roster.specs.Roster.{entries_in, stands};
@@ -33,22 +33,14 @@ pub struct Sent {
     pub verdict: Verdict,
 }
 
-// The circuit of a number that a node sends, with its place; or that it sends none; or why that is not asked.
-#[derive(Clone, Copy)]
-pub enum Lookup {
-    Found(Standing),
-    Nothing,
-    Refused(Refusal),
-}
-
 // The row of a refused lookup.
 fn no_row(refusal: Refusal) -> Sent
-    ensures { result ≡ sent_of [] (Verdict.Refused refusal) }
+    ensures { result ≡ sent_of [] (Err refusal) }
 {
     Sent {
         list: [BLANK; MOST_SENT],
         count: 0,
-        verdict: Verdict::Refused(refusal),
+        verdict: Err(refusal),
     }
 }
 
@@ -58,10 +50,8 @@ fn gather(keys: &[u64], rests: &[u64]) -> [Standing; MOST_SENT]
     ensures { result ≡ in_room (entries_in keys.now rests.now) }
 {
     let mut list = [BLANK; MOST_SENT];
-    let mut i: usize = 0;
-    while i < keys.len() {
-        list[i] = entries::entry_of(keys[i], rests[i]);
-        i += 1;
+    for (i, key) in keys.iter().enumerate() {
+        list[i] = entries::entry_of(*key, rests[i]);
     }
     list
 }
@@ -78,14 +68,12 @@ pub fn row_valid(roster: Roster, node: u8) -> Sent
     }
     let keys = roster.keys;
     let rests = roster.rests;
-    let row = rows::row_of(&keys, heading.count as usize, node);
-    let start = row.start;
-    let end = row.end;
-    let list = gather(&keys[start..end], &rests[start..end]);
+    let row = rows::row_of(&keys[..heading.count as usize], node);
+    let list = gather(&keys[row.start..row.end], &rests[row.start..row.end]);
     Sent {
         list,
-        count: end - start,
-        verdict: Verdict::Granted,
+        count: row.end - row.start,
+        verdict: Ok(()),
     }
 }
 
@@ -100,33 +88,31 @@ pub fn row(roster: Roster, node: u8) -> Sent
     row_valid(roster, node)
 }
 
-// The circuit of a number that a node sends, on a roster that stands: a search by halves.
-pub fn circuit_of_valid(roster: Roster, node: u8, number: u32) -> Lookup
+// The circuit of a number that a node sends, if there is one, on a roster that stands: a search by halves.
+pub fn circuit_of_valid(roster: Roster, node: u8, number: u32) -> Result<Option<Standing>, Refusal>
     requires { stands roster ≡ true }
     ensures answer { result ≡ circuit_of_roster roster node number }
-    ensures numbers { lookup_answer result ≡ answer_by (lookup_reasons roster node) (lookup_answer (numbered number (sent_by roster node))).values }
+    ensures numbers { lookup_answer result ≡ answer_by (lookup_reasons roster node) (lookup_answer (Ok (numbered number (sent_by roster node)))).values }
 {
     let heading = roster.heading;
     if !lightpath::on_ring(heading.nodes, node) {
-        return Lookup::Refused(Refusal::OffRing);
+        return Err(Refusal::OffRing);
     }
     let keys = roster.keys;
     let rests = roster.rests;
-    let count = heading.count as usize;
-    let at = rows::position(&keys, count, node, number);
-    if count <= at {
-        return Lookup::Nothing;
+    match rows::position(&keys[..heading.count as usize], node, number) {
+        Some(at) => Ok(Some(entries::entry_of(keys[at], rests[at]))),
+        None => Ok(None),
     }
-    Lookup::Found(entries::entry_of(keys[at], rests[at]))
 }
 
-// The circuit of a number that a node sends, with its place.
-pub fn circuit_of(roster: Roster, node: u8, number: u32) -> Lookup
+// The circuit of a number that a node sends, with its place, if there is one; or why that is not asked.
+pub fn circuit_of(roster: Roster, node: u8, number: u32) -> Result<Option<Standing>, Refusal>
     ensures answer { result ≡ circuit_of_roster roster node number }
-    ensures numbers { lookup_answer result ≡ answer_by (lookup_reasons roster node) (lookup_answer (numbered number (sent_by roster node))).values }
+    ensures numbers { lookup_answer result ≡ answer_by (lookup_reasons roster node) (lookup_answer (Ok (numbered number (sent_by roster node)))).values }
 {
     if !roster.stands() {
-        return Lookup::Refused(Refusal::BrokenRule);
+        return Err(Refusal::BrokenRule);
     }
     circuit_of_valid(roster, node, number)
 }

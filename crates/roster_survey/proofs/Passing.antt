@@ -3,13 +3,13 @@
 use Prim.Native.Nat.{ℕ, zero, suc, ◌+◌, ◌≤◌, ◌<◌}
 use mathlib.Core.Path.{◌≡◌, refl, ap, ◌∙◌}
 use mathlib.Core.Bool.{Bool, true, false, ◌&&◌, ◌||◌}
-use mathlib.Core.List.{List, [], ◌∷◌}
+use mathlib.Core.List.{List, [], ◌∷◌, ◌++◌}
 use native.Mathlib.Numerals.{add-one}
 use native.Mathlib.Omega.{arith}
 use mir.Syntax.{w64}
 use mir.Val.{Fits, bool_byte}
 use lib.Dec.{eqb, ltb}
-use lib.ListN.{length, get_or, take}
+use lib.ListN.{length, get_or, take, length-append}
 use lib.Seq.{take-suc, length-take-le}
 use borrow.Author.Tests.{lt-ltb}
 use Rattle.basis.specs.Choice.{bit}
@@ -19,10 +19,11 @@ use Rattle.basis.proofs.Weigh.{weigh_append, weigh_most, bit_most}
 use Rattle.limits.specs.Limits.{most_circuits}
 use Rattle.lightpath.specs.declared.Circuit.{Circuit}
 use Rattle.lit_words.specs.Lit.{words_of}
+use Rattle.lit_words.specs.Sets.{either_of, both_of}
 use Rattle.lit_words.specs.With.{RoomFor}
 use Rattle.lit_words.specs.declared.Lit.{Lit}
 use Rattle.lit_words.proofs.Added.{word_either, word_both, words_none, one_room, words_one}
-use Rattle.roster_survey.specs.Pass.{Pass, number_in, place_in, destination_in, stand_at, lit_in, shared_in, pass_of, either_of, both_of, one_place, pass_with, Takes, Entered}
+use Rattle.roster_survey.specs.Pass.{Pass, number_in, place_in, destination_in, stand_at, lit_in, shared_in, pass_of, one_place, pass_with, Takes, Entered}
 
 -- a count has room for it
 pub entry_fits : (n : ℕ) (x : Bool) → n < most_circuits → Fits w64 (n + bool_byte x)
@@ -135,4 +136,8 @@ module _ (keys rests : List ℕ) (count : ℕ) (c : Circuit) (i : ℕ) (v : Pass
             )
             (λ j. words_of (λ p. (more_shared (stand_at (take i rests) p) (here p) ∙ ap (λ (n : ℕ). ltb 1 n) (stand p)) j))
 
-pub ruleset passing = (pass_start, pass_takes, pass_next, pass_end)
+-- after one more was taken from a list
+pub pass_count : {A : Type 0} (keys rests : List ℕ) (count : ℕ) (c : Circuit) (ys : List A) (y : A) (v : Pass) → Passing keys rests count c (length ys + 1) v → Passing keys rests count c (length (ys ++ (y ∷ []))) v
+pass_count keys rests count c ys y v h = rw length-append h
+
+pub ruleset passing = (pass_start, pass_takes, pass_next, pass_end, pass_count)

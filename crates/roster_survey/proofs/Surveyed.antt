@@ -29,7 +29,7 @@ use Rattle.entries.specs.Entry.{entry_of}
 use Rattle.roster.specs.Held.{Holds}
 use Rattle.rows.specs.Row.{row_in}
 use Rattle.rows.specs.declared.Row.{Row}
-use Rattle.rows.proofs.Held.{held_rising, held_order, held_sends}
+use Rattle.rows.proofs.Held.{held_used, held_ordered, held_order, held_sends}
 use Rattle.roster_survey.specs.Pass.{Pass, Nearest, shared_in, pass_of, Entered, joinable, Least, joinable_at, place_at, Reached, standing_in}
 use Rattle.roster_survey.proofs.Lowest.{Stands, least_first}
 use Rattle.roster_survey.proofs.Entries.{held_numbered, held_received, held_at, held_lit, held_place, held_some, held_alone, held_found, held_entered}
@@ -127,4 +127,8 @@ module _ (N : ℕ) (ks : List ℕ) (t : Channels) (keys rests : List ℕ) (count
             let lit = ap (λ (w : Pass). w.lit) seen ∙ held_lit N ks t keys rests count h in
             rw (e ∙ join_is, numbers, held_sends N ks t keys rests count h c.source r row, destinations, lit)
 
-pub ruleset surveyed = (held_rising, held_order, survey_entered, survey_nodes, survey_reached, survey_is)
+-- the count, as an index
+pub survey_count : (N : ℕ) (ks : List ℕ) (t : Channels) (keys rests : List ℕ) (count n : ℕ) → n ≡ count → Holds N ks t keys rests count → Holds N ks t keys rests n
+survey_count N ks t keys rests count n e h = rw e h
+
+pub ruleset surveyed = (held_used, held_ordered, held_order, survey_entered, survey_nodes, survey_reached, survey_is)

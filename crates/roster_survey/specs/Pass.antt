@@ -1,7 +1,6 @@
 -- What a pass over the keys and rests of the entries sees for a new circuit, and the entry that it finds for it to join. Assumes nothing.
 -- Serves proofs inside only.
 use Rattle.std.specs.Prelude.{ℕ, ◌+◌, ◌/◌, ◌%◌, ◌^◌, ◌≤◌, ◌<◌, ◌≡◌, Bool, true, ◌&&◌, not, List, eqb, ltb, length, get_or}
-use Rattle.std.specs.Int.Bits.{bit_and, bit_or}
 use Rattle.basis.specs.Choice.{pick, bit}
 use Rattle.basis.specs.Count.{tally}
 use Rattle.limits.specs.Limits.{place_count, most_circuits}
@@ -9,6 +8,7 @@ use Rattle.lightpath.specs.Place.{direction_of}
 use Rattle.lightpath.specs.Circuit.{blank_circuit, can_share}
 use Rattle.lightpath.specs.declared.Circuit.{Circuit}
 use Rattle.lit_words.specs.Lit.{lit_bit, words_of}
+use Rattle.lit_words.specs.Sets.{either_of, both_of}
 use Rattle.lit_words.specs.With.{with_place}
 use Rattle.lit_words.specs.declared.Lit.{Lit}
 use Rattle.channels.specs.declared.Standing.{Standing}
@@ -44,13 +44,6 @@ pass_of c keys rests = record {
   lit = words_of (lit_in rests);
   shared = words_of (shared_in rests);
 }
-
--- the places that one or the other has, and those that both have
-abbrev pub either_of : Lit → Lit → Lit
-either_of a b = record { low = bit_or a.low b.low; high = bit_or a.high b.high }
-
-abbrev pub both_of : Lit → Lit → Lit
-both_of a b = record { low = bit_and a.low b.low; high = bit_and a.high b.high }
 
 -- place p alone
 abbrev pub one_place : ℕ → Lit

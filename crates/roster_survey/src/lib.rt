@@ -10,33 +10,14 @@ ghost use Rattle.survey.specs.Survey.{survey_of};
 ghost use Rattle.entries.specs.Entry.{entry_of};
 ghost use Rattle.roster.specs.Roster.{places_of};
 ghost use Rattle.roster.specs.Held.{Holds};
-ghost use Rattle.roster_survey.specs.Pass.{either_of, both_of, one_place, place_in, pass_of, pass_with, Takes, Entered, joinable, nearer, Least, joinable_at, place_at, Reached, standing_in};
+ghost use Rattle.roster_survey.specs.Pass.{one_place, place_in, pass_of, pass_with, Takes, Entered, joinable, nearer, Least, joinable_at, place_at, Reached, standing_in};
 
 use channels::Standing;
+use entries::{DESTINATION, NEXT_ROW, NODES};
 use lightpath::{BLANK_CIRCUIT, Circuit, Place};
 use lit_words::Lit;
 use roster::Heading;
 use survey::Survey;
-
-// The places that one or the other has.
-fn either(a: Lit, b: Lit) -> Lit
-    ensures { result ≡ either_of a b }
-{
-    Lit {
-        low: a.low | b.low,
-        high: a.high | b.high,
-    }
-}
-
-// The places that both have.
-fn both(a: Lit, b: Lit) -> Lit
-    ensures { result ≡ both_of a b }
-{
-    Lit {
-        low: a.low & b.low,
-        high: a.high & b.high,
-    }
-}
 
 // The words of one place, without a branch.
 fn one_place(place: usize) -> Lit
@@ -67,17 +48,14 @@ impl Pass {
         requires { Takes self rest }
         ensures { result ≡ pass_with circuit key rest self }
     {
-        let place = (rest % 256) as usize;
-        let numbered = self.numbered + (key % 4294967296 == circuit.number as u64) as usize;
-        let received = self.received + (rest / 256 % 256 == circuit.destination as u64) as usize;
-        let here = one_place(place);
-        let lit = self.lit;
-        let shared = self.shared;
+        let numbered = key % NEXT_ROW == u64::from(circuit.number);
+        let received = rest / DESTINATION % NODES == u64::from(circuit.destination);
+        let here = one_place((rest % DESTINATION) as usize);
         Pass {
-            numbered,
-            received,
-            lit: either(lit, here),
-            shared: either(shared, both(lit, here)),
+            numbered: self.numbered + usize::from(numbered),
+            received: self.received + usize::from(received),
+            lit: self.lit | here,
+            shared: self.shared | self.lit & here,
         }
     }
 }
@@ -93,10 +71,8 @@ fn pass_entries(keys: &[u64], rests: &[u64], count: usize, circuit: Circuit) -> 
         lit: Lit { low: 0, high: 0 },
         shared: Lit { low: 0, high: 0 },
     };
-    let mut i: usize = 0;
-    while i < count {
-        seen = seen.with_entry(circuit, keys[i], rests[i]);
-        i += 1;
+    for (key, rest) in keys[..count].iter().zip(&rests[..count]) {
+        seen = seen.with_entry(circuit, *key, *rest);
     }
     seen
 }
@@ -105,8 +81,8 @@ fn pass_entries(keys: &[u64], rests: &[u64], count: usize, circuit: Circuit) -> 
 fn is_adjacent(circuit: Circuit, key: u64, rest: u64) -> bool
     ensures { result ≡ adjacent (entry_of key rest).circuit circuit }
 {
-    rest / 256 % 256 == circuit.source as u64
-        || circuit.destination as u64 == key / 4294967296 % 256
+    rest / DESTINATION % NODES == u64::from(circuit.source)
+        || u64::from(circuit.destination) == key / NEXT_ROW % NODES
 }
 
 // Whether a circuit can join that of an entry.
@@ -114,14 +90,10 @@ fn can_join(nodes: u8, circuit: Circuit, shared: Lit, key: u64, rest: u64) -> bo
     requires { (0 < nodes) × (place_in rest < place_count) }
     ensures { result ≡ joinable nodes circuit shared key rest }
 {
-    let place = (rest % 256) as usize;
-    if shared.is_lit(place) {
-        return false;
-    }
-    let number = place as u8;
-    let direction = Place(number).direction();
-    let entry = entries::entry_of(key, rest);
-    entry.circuit.can_share(circuit, nodes, direction)
+    let place = (rest % DESTINATION) as usize;
+    let direction = Place(place as u8).direction();
+    let other = entries::entry_of(key, rest).circuit;
+    !shared.is_lit(place) && other.can_share(circuit, nodes, direction)
 }
 
 // The lowest place found at which a circuit can be joined, or the limit, and the position of its entry.
@@ -149,11 +121,8 @@ impl Nearest {
         if !is_adjacent(circuit, key, rest) {
             return self;
         }
-        let place = (rest % 256) as usize;
-        if self.place <= place {
-            return self;
-        }
-        if !can_join(nodes, circuit, shared, key, rest) {
+        let place = (rest % DESTINATION) as usize;
+        if self.place <= place || !can_join(nodes, circuit, shared, key, rest) {
             return self;
         }
         Nearest { place, position }
@@ -170,8 +139,7 @@ impl Nearest {
                 circuit: BLANK_CIRCUIT,
             };
         }
-        let i = self.position;
-        entries::entry_of(keys[i], rests[i])
+        entries::entry_of(keys[self.position], rests[self.position])
     }
 }
 
@@ -192,10 +160,9 @@ fn find_join(
         place: limit,
         position: 0,
     };
-    let mut i: usize = 0;
-    while i < count {
+    // By position: it is kept of the entry that is found.
+    for i in 0..count {
         found = found.with_entry(nodes, circuit, shared, keys[i], rests[i], i);
-        i += 1;
     }
     found
 }
@@ -211,18 +178,23 @@ pub fn survey_entries(
     requires { Holds heading.nodes heading.ports (places_of keys.now rests.now heading.count) keys.now rests.now heading.count }
     ensures { result ≡ survey_of heading.nodes limit (places_of keys.now rests.now heading.count) circuit }
 {
-    let count = heading.count as usize;
-    let row = rows::row_of(keys, count, circuit.source);
+    let count = usize::from(heading.count);
+    let row = rows::row_of(&keys[..count], circuit.source);
     let seen = pass_entries(keys, rests, count, circuit);
-    let lit = seen.lit;
-    let shared = seen.shared;
-    let nearest = find_join(heading.nodes, limit, keys, rests, count, circuit, shared);
-    let join = nearest.standing(limit, keys, rests);
+    let nearest = find_join(
+        heading.nodes,
+        limit,
+        keys,
+        rests,
+        count,
+        circuit,
+        seen.shared,
+    );
     Survey {
         numbered: seen.numbered,
         sent: row.end - row.start,
         received: seen.received,
-        join,
-        lit,
+        join: nearest.standing(limit, keys, rests),
+        lit: seen.lit,
     }
 }

@@ -2,12 +2,13 @@
 -- finds these laws. Assumes nothing.
 use Prim.Native.Nat.{ℕ, suc, ◌≤◌}
 use mathlib.Core.Path.{◌≡◌, refl, sym, ◌∙◌}
-use mathlib.Core.Bool.{Bool, true, false, true≢false}
+use mathlib.Core.Bool.{Bool, true, false}
 use mathlib.Core.List.{List, [], ◌∷◌}
 use native.Mathlib.Omega.{arith}
 use lib.Dec.{ltb, leb-suc-suc}
 use lib.ListN.{length, get_or}
 use borrow.Author.Tests.{lt-ltb}
+use Rattle.std.specs.Prelude.{Option, Some, is_some}
 use Rattle.basis.specs.Choice.{pick}
 use Rattle.basis.specs.Search.{first_place, pairs_of}
 use Rattle.basis.proofs.Arrays.{array_length}
@@ -30,26 +31,26 @@ pub room_by : (m : ℕ) (t : Channels) (u v : ℕ) → u ≡ lowest_in is_unlit 
 room_by m t u v e f = rw (e, f)
 
 -- whether there is a hit
-hit_found : (f : Standing × Standing → Bool) (l : List (Standing × Standing)) → (first_hit f l).found ≡ ltb (first_place f l) (length l)
+hit_found : (f : Standing × Standing → Bool) (l : List (Standing × Standing)) → is_some (first_hit f l) ≡ ltb (first_place f l) (length l)
 hit_found f [] = refl
 hit_found f (x ∷ l) = go (f x) (hit_found f l)
   where
-    go : (o : Bool) → (first_hit f l).found ≡ ltb (first_place f l) (length l)
-        → (pick o (record { found = true; first = x.0; second = x.1 }) (first_hit f l)).found
-        ≡ ltb (pick o 0 (suc (first_place f l))) (suc (length l))
+    go : (o : Bool) → is_some (first_hit f l) ≡ ltb (first_place f l) (length l)
+        → is_some (pick o (Some (record { first = x.0; second = x.1 })) (first_hit f l)) ≡ ltb (pick o 0 (suc (first_place f l))) (suc (length l))
     go true rest = sym (lt-ltb 0 (suc (length l)) (omega arith))
     go false rest = rest ∙ sym (leb-suc-suc (suc (first_place f l)) (length l))
 
 -- and which pair it is
-hit_pair : (f : Standing × Standing → Bool) (d : Standing × Standing) (l : List (Standing × Standing)) → (first_hit f l).found ≡ true
-    → ((first_hit f l).first ≡ (get_or l (first_place f l) d).0) × ((first_hit f l).second ≡ (get_or l (first_place f l) d).1)
-hit_pair f d [] h = absurd (true≢false (sym h))
-hit_pair f d (x ∷ l) h = go (f x) refl (hit_pair f d l)
+hit_pair : (f : Standing × Standing → Bool) (d : Standing × Standing) (l : List (Standing × Standing)) (hit : Hit) → first_hit f l ≡ Some hit
+    → (hit.first ≡ (get_or l (first_place f l) d).0) × (hit.second ≡ (get_or l (first_place f l) d).1)
+hit_pair f d [] hit h = cc
+hit_pair f d (x ∷ l) hit h = go (f x) refl h (hit_pair f d l hit)
   where
-    go : (o : Bool) → f x ≡ o → ((first_hit f l).found ≡ true → ((first_hit f l).first ≡ (get_or l (first_place f l) d).0) × ((first_hit f l).second ≡ (get_or l (first_place f l) d).1))
-        → ((first_hit f (x ∷ l)).first ≡ (get_or (x ∷ l) (first_place f (x ∷ l)) d).0) × ((first_hit f (x ∷ l)).second ≡ (get_or (x ∷ l) (first_place f (x ∷ l)) d).1)
-    go true e rest = rw e (refl, refl)
-    go false e rest = rw e (rest (rw e at h))
+    go : (o : Bool) → f x ≡ o → pick o (Some (record { first = x.0; second = x.1 })) (first_hit f l) ≡ Some hit
+        → (first_hit f l ≡ Some hit → (hit.first ≡ (get_or l (first_place f l) d).0) × (hit.second ≡ (get_or l (first_place f l) d).1))
+        → (hit.first ≡ (get_or (x ∷ l) (first_place f (x ∷ l)) d).0) × (hit.second ≡ (get_or (x ∷ l) (first_place f (x ∷ l)) d).1)
+    go true e h rest = let is : hit ≡ record { first = x.0; second = x.1 } = cc in rw (e, is) (refl, refl)
+    go false e h rest = rw e (rest h)
 
 module _ (N m : ℕ) (t : Channels) (room : Room) (e : room ≡ room_of m t) (long : length t ≡ place_count) (low : m ≤ place_count) where
   -- the rows that are skipped have no pair that can be joined
@@ -58,14 +59,14 @@ module _ (N m : ℕ) (t : Channels) (room : Room) (e : room ≡ room_of m t) (lo
   found_skipping before from start h f = rw e (skipping N m t before from start (omega arith) h (rw e at f))
 
   -- what is found is the next round's pair
-  pub found_next : (hit : Hit) → hit ≡ first_hit (joinable_in N m room) (pairs_of (nonsharing m t)) → Finds N m t (record { hit = hit; room = room })
+  pub found_next : (hit : Option Hit) → hit ≡ first_hit (joinable_in N m room) (pairs_of (nonsharing m t)) → Finds N m t (record { hit = hit; room = room })
   found_next hit h =
       rw is (record {
         room = e;
         found = hit_found (joinable N m t) pairs;
-        first = λ o. (hit_pair (joinable N m t) (standing_at t 0, standing_at t 0) pairs o).0;
-        second = λ o. (hit_pair (joinable N m t) (standing_at t 0, standing_at t 0) pairs o).1;
-        passed = rw (← is, h) (passed_by N m t room (omega arith));
+        first = λ x o. (hit_pair (joinable N m t) (standing_at t 0, standing_at t 0) pairs x o).0;
+        second = λ x o. (hit_pair (joinable N m t) (standing_at t 0, standing_at t 0) pairs x o).1;
+        passed = λ x o. passed_by N m t room (omega arith) x (sym h ∙ is ∙ o);
       })
     where
       pairs : List (Standing × Standing)

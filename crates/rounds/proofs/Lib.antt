@@ -1,8 +1,5 @@
--- The laws of a tidying by value: the unlit places, the search for a pair, which pairs are passed by, what is found, a pair joined, and the
--- rounds together.
-pub mod Gains
+-- The laws of a tidying by value: the search for a pair, which pairs are passed by, what is found, and the rounds together.
 pub mod Seek
 pub mod Passing
 pub mod Finding
-pub mod Made
 pub mod Midway

@@ -7,6 +7,7 @@ use mathlib.Core.List.{List, [], ◌++◌, append_assoc, append-nil}
 use native.Mathlib.Omega.{arith}
 use lib.ListN.{length, length-append}
 use borrow.Author.Tests.{ltb-true}
+use Rattle.std.specs.Prelude.{Some, None}
 use Rattle.basis.specs.Choice.{pick}
 use Rattle.basis.proofs.Arrays.{array_length}
 use Rattle.basis.proofs.Bools.{and_right}
@@ -33,6 +34,7 @@ use Rattle.tidying.proofs.Pairs.{alone_count, alone_most, joining_settles, round
 use Rattle.tidying.proofs.Tidying.{untouched, tidied_already, tidied_on}
 use Rattle.rounds.specs.Room.{Room, room_of, lowest_of}
 use Rattle.rounds.specs.Joined.{Joined, join_in, Joins}
+use Rattle.rounds.specs.Search.{Hit}
 use Rattle.rounds.specs.Next.{Next, PassedBy, Finds}
 use Rattle.rounds.specs.Tidied.{TidiedPlaces, tidied_places, CanGoOn, After}
 use Rattle.rounds.proofs.Passing.{room_is, passed_none, passed_on}
@@ -101,20 +103,20 @@ midway_start N m t ms long e = record {
 module _ (N m : ℕ) (t : Channels) (r : TidiedPlaces) (next : Next) (low : m ≤ place_count) (long : length r.channels ≡ place_count)
     (half : Midway N m t r) (finds : Finds N m r.channels next) where
   -- where no round is found, the tidying is done
-  pub midway_end : next.hit.found ≡ false → r ≡ tidied_places (tidy_up N m t)
+  pub midway_end : next.hit ≡ None → r ≡ tidied_places (tidy_up N m t)
   midway_end none = sym (ap tidied_places (half.whole ∙ ap (after half.done r.rounds) over) ∙ same)
     where
       over : tidy_within (most_rounds - r.rounds) N m r.channels ≡ untouched r.channels
-      over = tidied_already (most_rounds - r.rounds) N m r.channels (sym finds.found ∙ none)
+      over = tidied_already (most_rounds - r.rounds) N m r.channels (sym finds.found ∙ rw none)
 
       same : tidied_places (after half.done r.rounds (untouched r.channels)) ≡ r
       same =
           let n : r.rounds + 0 ≡ r.rounds = omega arith in
           λ i. record { channels = r.channels; rounds = n i; moves = (ap list_of (append-nil half.done) ∙ sym half.moves) i }
 
-  module _ (some : next.hit.found ≡ true) where
+  module _ (hit : Hit) (some : next.hit ≡ Some hit) where
     can : can_round N m r.channels ≡ true
-    can = sym finds.found ∙ some
+    can = sym finds.found ∙ rw some
 
     within : m ≤ length r.channels
     within = omega arith
@@ -124,17 +126,17 @@ module _ (N m : ℕ) (t : Channels) (r : TidiedPlaces) (next : Next) (low : m �
     lone = round_lone N m r.channels within can
 
     -- the pair that is found is the round's, and what joining it does is what the round does
-    join_is : join_in N next.room next.hit.first next.hit.second ≡ round_of N m r.channels
+    join_is : join_in N next.room hit.first hit.second ≡ round_of N m r.channels
     join_is =
-        rw (finds.room, finds.first some, finds.second some, room_is m r.channels (share_direction N (round_pair N m r.channels).0.circuit (round_pair N m r.channels).1.circuit))
+        rw (finds.room, finds.first hit some, finds.second hit some, room_is m r.channels (share_direction N (round_pair N m r.channels).0.circuit (round_pair N m r.channels).1.circuit))
 
     -- the round can be carried out
-    pub can_go_on : 0 < N → CanGoOn N next r
+    pub can_go_on : 0 < N → CanGoOn N next.room hit r
     can_go_on nodes =
         let pair = round_pair_lem N m r.channels within can in
         let passes = round_joinable N m r.channels within can in
         record {
-          pair = rw (finds.room, finds.first some, finds.second some) (record {
+          pair = rw (finds.room, finds.first hit some, finds.second hit some) (record {
             nodes = nodes;
             first = omega (arith, pair.0.low);
             second = omega (arith, pair.1.low);
@@ -150,7 +152,7 @@ module _ (N m : ℕ) (t : Channels) (r : TidiedPlaces) (next : Next) (low : m �
             rw (room_is m r.channels (share_direction N a.circuit b.circuit))
             (ltb-true _ _ (and_right (adjacent a.circuit b.circuit) _ (rw (e, f) at h)))
 
-    module _ (r' : TidiedPlaces) (a : After (join_in N next.room next.hit.first next.hit.second) r r') where
+    module _ (r' : TidiedPlaces) (a : After (join_in N next.room hit.first hit.second) r r') where
       -- the places are those after the round
       now : r'.channels ≡ rounded N m r.channels
       now = a.places ∙ ap (λ round. puts round.changes r.channels) join_is
@@ -164,11 +166,11 @@ module _ (N m : ℕ) (t : Channels) (r : TidiedPlaces) (next : Next) (low : m �
       fewer_alone = rw now (omega (arith, lone))
 
       -- what was passed by still is
-      pub passed_next : (place : ℕ) → place ≡ next.hit.first.place → PassedBy N m r'.channels next.room place
-      passed_next place e =
-          rw (now, e)
-          (passed_on N m r.channels (rounded N m r.channels) next.room next.hit.first.place low
-          (joining_settles r.channels (round_of N m r.channels).changes (round_joining N m r.channels within can) long) finds.passed)
+      pub passed_next : PassedBy N m r'.channels next.room hit.first.place
+      passed_next =
+          rw now
+          (passed_on N m r.channels (rounded N m r.channels) next.room hit.first.place low
+          (joining_settles r.channels (round_of N m r.channels).changes (round_joining N m r.channels within can) long) (finds.passed hit some))
 
       -- and the tidying is one round further
       pub midway_next : Midway N m t r'
@@ -186,7 +188,7 @@ module _ (N m : ℕ) (t : Channels) (r : TidiedPlaces) (next : Next) (low : m �
           ms = (round_of N m r.channels).moves
 
           small : length ms ≤ 2
-          small = subst (λ round. length round.moves ≤ 2) join_is (join_small N next.room next.hit.first next.hit.second).few
+          small = subst (λ round. length round.moves ≤ 2) join_is (join_small N next.room hit.first hit.second).few
 
           left : Tidying
           left = tidy_within (most_rounds - r'.rounds) N m (rounded N m r.channels)

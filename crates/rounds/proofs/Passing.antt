@@ -1,7 +1,7 @@
 -- Which pairs are passed by for good: those before the row of the pair that a round joins, as long as no direction gets an unlit place that
 -- had none. Assumes nothing.
 use Prim.Native.Nat.{ℕ, ◌≤◌, ◌<◌}
-use mathlib.Core.Path.{◌≡◌, refl, ap, ◌∙◌}
+use mathlib.Core.Path.{◌≡◌, refl, sym, ap, ◌∙◌}
 use mathlib.Core.Logic.{◌⊎◌, inl, inr}
 use mathlib.Core.Bool.{Bool, true, false, ◌&&◌, ◌||◌}
 use mathlib.Core.List.{List, [], ◌∷◌, ◌++◌}
@@ -9,6 +9,7 @@ use native.Mathlib.Omega.{arith}
 use lib.Dec.{leb, ltb}
 use lib.ListN.{length}
 use borrow.Author.Tests.{le-leb, ltb-false}
+use Rattle.std.specs.Prelude.{Some}
 use Rattle.basis.specs.Choice.{pick}
 use Rattle.basis.specs.Count.{All}
 use Rattle.basis.specs.Search.{pairs_with, pairs_of}
@@ -19,7 +20,7 @@ use Rattle.lightpath.specs.Circuit.{adjacent, share_direction}
 use Rattle.lightpath.specs.declared.Direction.{Direction}
 use Rattle.lightpath.specs.declared.Direction.TheVariants.{Clockwise as clockwise, Counterclockwise as counterclockwise}
 use Rattle.slots.specs.Slot.{is_unlit}
-use Rattle.channels.specs.Channels.{Channels, at}
+use Rattle.channels.specs.Channels.{Channels}
 use Rattle.channels.specs.Nonsharing.{nonsharing}
 use Rattle.channels.specs.declared.Standing.{Standing}
 use Rattle.channels.proofs.Nonsharing.{Stands, Lower, nonsharing_ordered, stands_pairs}
@@ -28,7 +29,7 @@ use Rattle.tidying.specs.Round.{joinable}
 use Rattle.tidying.proofs.Settled.{Settles}
 use Rattle.tidying.proofs.Choice.{Pair, pairs_stand}
 use Rattle.rounds.specs.Room.{Room, room_of, lowest_of, gains}
-use Rattle.rounds.specs.Search.{joinable_in, first_hit, Skipping}
+use Rattle.rounds.specs.Search.{Hit, joinable_in, first_hit, Skipping}
 use Rattle.rounds.specs.Next.{Lone, PassedBy}
 use Rattle.rounds.proofs.Seek.{hit_misses}
 
@@ -70,20 +71,26 @@ still_not N m r r' pair e f =
 
 -- the row of an element has no hit, or the first hit of all is in it
 row_hit : (f : Standing × Standing → Bool) (a : Standing) (l : List Standing) (more : List (Standing × Standing))
-    → (All (λ x. f x ≡ false) (pairs_with a l)) ⊎ ((first_hit f (pairs_with a l ++ more)).first ≡ a)
+    → (All (λ x. f x ≡ false) (pairs_with a l)) ⊎ ((hit : Hit) → first_hit f (pairs_with a l ++ more) ≡ Some hit → hit.first ≡ a)
 row_hit f a [] more = inl tt
 row_hit f a (b ∷ l) more = go (f (a, b)) refl (row_hit f a l more)
   where
-    go : (o : Bool) → f (a, b) ≡ o → (All (λ x. f x ≡ false) (pairs_with a l)) ⊎ ((first_hit f (pairs_with a l ++ more)).first ≡ a)
-        → (All (λ x. f x ≡ false) (pairs_with a (b ∷ l))) ⊎ ((first_hit f (pairs_with a (b ∷ l) ++ more)).first ≡ a)
-    go true e rest = inr (rw e)
+    Here : List Standing → Type 0
+    Here l = (hit : Hit) → first_hit f (pairs_with a l ++ more) ≡ Some hit → hit.first ≡ a
+
+    first : f (a, b) ≡ true → Here (b ∷ l)
+    first e hit h = let k : Some (record { first = a; second = b }) ≡ Some hit = rw e at h in cc
+
+    go : (o : Bool) → f (a, b) ≡ o → (All (λ x. f x ≡ false) (pairs_with a l)) ⊎ Here l → (All (λ x. f x ≡ false) (pairs_with a (b ∷ l))) ⊎ Here (b ∷ l)
+    go true e rest = inr (first e)
     go false e (inl h) = inl (e, h)
-    go false e (inr h) = inr (rw e h)
+    go false e (inr h) = inr (λ hit k. h hit (rw e at k))
 
 -- no pair passes whose first member stands below that of the first hit
-pub rows_before : (f : Standing × Standing → Bool) (l : List Standing) → Ordered Lower l → Skipping f (first_hit f (pairs_of l)).first.place (pairs_of l)
-rows_before f [] o = tt
-rows_before f (a ∷ l) o = go (row_hit f a l (pairs_of l)) (rows_before f l o.1)
+pub rows_before : (f : Standing × Standing → Bool) (l : List Standing) (hit : Hit) → Ordered Lower l → first_hit f (pairs_of l) ≡ Some hit
+    → Skipping f hit.first.place (pairs_of l)
+rows_before f [] hit o k = tt
+rows_before f (a ∷ l) hit o k = go (row_hit f a l (pairs_of l)) (rows_before f l hit o.1)
   where
     same : (xs : List Standing) → All (λ pair. pair.0 ≡ a) (pairs_with a xs)
     same [] = tt
@@ -92,13 +99,13 @@ rows_before f (a ∷ l) o = go (row_hit f a l (pairs_of l)) (rows_before f l o.1
     lower : All (λ pair. a.place < pair.0.place) (pairs_of l)
     lower = all_map _ _ (λ pair h. h.0) (pairs_of l) (pairs_all (Lower a) Lower l o.0 o.1)
 
-    go : (All (λ x. f x ≡ false) (pairs_with a l)) ⊎ ((first_hit f (pairs_with a l ++ pairs_of l)).first ≡ a)
-        → Skipping f (first_hit f (pairs_of l)).first.place (pairs_of l)
-        → Skipping f (first_hit f (pairs_with a l ++ pairs_of l)).first.place (pairs_with a l ++ pairs_of l)
+    go : (All (λ x. f x ≡ false) (pairs_with a l)) ⊎ ((hit : Hit) → first_hit f (pairs_with a l ++ pairs_of l) ≡ Some hit → hit.first ≡ a)
+        → (first_hit f (pairs_of l) ≡ Some hit → Skipping f hit.first.place (pairs_of l)) → Skipping f hit.first.place (pairs_with a l ++ pairs_of l)
     go (inl h) rest =
-        rw (hit_misses f (pairs_with a l) (pairs_of l) h) (all_join _ (pairs_with a l) (pairs_of l) (all_map _ _ (λ x e k. e) (pairs_with a l) h) rest)
+        all_join _ (pairs_with a l) (pairs_of l) (all_map _ _ (λ x e k. e) (pairs_with a l) h) (rest (sym (hit_misses f (pairs_with a l) (pairs_of l) h) ∙ k))
     go (inr h) rest =
-        rw h (all_join _ (pairs_with a l) (pairs_of l) (all_map _ _ (λ x e k. absurd (omega (arith, ap (λ s. s.place) e))) (pairs_with a l) (same l))
+        let is : hit.first ≡ a = h hit k in
+        rw is (all_join _ (pairs_with a l) (pairs_of l) (all_map _ _ (λ x e k. absurd (omega (arith, ap (λ s. s.place) e))) (pairs_with a l) (same l))
         (all_map _ _ (λ x e k. absurd (omega arith)) (pairs_of l) lower))
 
 module _ (N m : ℕ) (t : Channels) where
@@ -122,11 +129,11 @@ module _ (N m : ℕ) (t : Channels) where
           (pairs_of (nonsharing m t)) (pairs_stand m t within)
 
   -- Law: no row before that of the pair that a round joins has a pair that can be joined
-  pub passed_by : (room : Room) → m ≤ length t
-      → PassedBy N m t room (first_hit (joinable_in N m room) (pairs_of (nonsharing m t))).first.place
-  passed_by room within = record {
+  pub passed_by : (room : Room) → m ≤ length t → (hit : Hit) → first_hit (joinable_in N m room) (pairs_of (nonsharing m t)) ≡ Some hit
+      → PassedBy N m t room hit.first.place
+  passed_by room within hit is = record {
     none =
-        λ a b la lb l k. stands_pairs m t within _ (rows_before (joinable_in N m room) (nonsharing m t) (nonsharing_ordered m t within)) a b
+        λ a b la lb l k. stands_pairs m t within _ (rows_before (joinable_in N m room) (nonsharing m t) hit (nonsharing_ordered m t within) is) a b
         (stands_lone a la) (stands_lone b lb) l k;
   }
 

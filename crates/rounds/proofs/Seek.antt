@@ -2,25 +2,20 @@
 -- branch's test as they stand in the record of a need, so that `search (rules, seek)` finds them. Assumes nothing.
 use Prim.Native.Nat.{ℕ, zero, suc, ◌+◌, ◌≤◌, ◌<◌}
 use mathlib.Core.Path.{◌≡◌, refl, sym, ap, subst, ◌∙◌}
-use mathlib.Core.Bool.{Bool, true, false, ◌&&◌, ◌||◌, not, true≢false}
+use mathlib.Core.Bool.{Bool, true, false, true≢false}
 use mathlib.Core.List.{List, [], ◌∷◌, ◌++◌}
 use native.Mathlib.Decide.{dec_lt}
 use native.Mathlib.Numerals.{add-one}
 use native.Mathlib.Omega.{arith}
-use lib.Dec.{ltb}
 use lib.ListN.{length, take, drop, drop_of_length-le}
 use lib.Seq.{drop-cons}
-use borrow.Author.Tests.{not-true, not-false}
+use Rattle.std.specs.Prelude.{Some, None}
 use Rattle.basis.specs.Count.{All}
 use Rattle.basis.specs.Search.{pairs_with, pairs_of}
-use Rattle.basis.proofs.Bools.{and_left, and_right, and-false, all_left, all_right}
+use Rattle.basis.proofs.Bools.{all_left, all_right}
 use Rattle.basis.proofs.Arrays.{array_length}
 use Rattle.limits.specs.Limits.{place_count}
-use Rattle.lightpath.specs.Place.{direction_of}
-use Rattle.lightpath.specs.Circuit.{adjacent, share_direction}
 use Rattle.lightpath.specs.declared.Circuit.{Circuit}
-use Rattle.lightpath.specs.declared.Direction.{Direction}
-use Rattle.lightpath.proofs.Share.{apart_never}
 use Rattle.slots.specs.Slot.{is_alone, first_of}
 use Rattle.slots.specs.declared.Slot.{Slot}
 use Rattle.slots.specs.declared.Slot.TheVariants.{Unlit as unlit, Alone as alone, Shared as shared}
@@ -29,10 +24,13 @@ use Rattle.channels.specs.Channels.{Channels, at, slots}
 use Rattle.channels.specs.Nonsharing.{alone_from, nonsharing}
 use Rattle.channels.specs.declared.Standing.{Standing}
 use Rattle.channels.proofs.Nonsharing.{below_length, below_at}
-use Rattle.steps.specs.Steps.{nowhere, stands_right}
-use Rattle.pairs.specs.Pairs.{blank_standing}
-use Rattle.rounds.specs.Room.{Room, lowest_of}
-use Rattle.rounds.specs.Search.{joinable_in, first_hit, Skipping}
+use Rattle.rounds.specs.Search.{first_hit, Skipping}
+
+-- what is no circuit alone
+pub not_alone : (s : Slot) → ((x : Circuit) → s ≡ alone x → ⊥) → is_alone s ≡ false
+not_alone unlit h = refl
+not_alone (alone x) h = absurd (h x refl)
+not_alone (shared x y) h = refl
 
 -- a pair that fails is passed over
 hit_miss : (f : Standing × Standing → Bool) (x : Standing × Standing) (rest : List (Standing × Standing)) → f x ≡ false
@@ -122,85 +120,54 @@ module _ {f : Standing × Standing → Bool} {m : ℕ} {t : Channels} where
   rows_start from e l s = let long : m ≤ length t = omega arith in record { long = long; left = (skip_rows f m t long from s from (omega arith)).0 }
 
   -- the row of a place with no circuit alone is empty
-  pub row_none : {p : ℕ} {r : Bool} → AtRow f m t p → p < m → r ≡ is_alone (at t p) → not r ≡ true → AtRow f m t (p + 1)
-  row_none {p} {r} w h e n =
-      record { long = w.long; left = w.left ∙ rw (add-one p) (ap (λ l. first_hit f (pairs_of l)) (next_other m t w.long p h (sym e ∙ not-true r n))) }
+  pub row_none : {p : ℕ} → AtRow f m t p → p < m → is_alone (at t p) ≡ false → AtRow f m t (p + 1)
+  row_none {p} w h e = record { long = w.long; left = w.left ∙ rw (add-one p) (ap (λ l. first_hit f (pairs_of l)) (next_other m t w.long p h e)) }
 
   -- another starts at the pair with the next place
-  pub row_enter : {p : ℕ} {r : Bool} {c : Circuit} → AtRow f m t p → p < m → r ≡ is_alone (at t p) → not r ≡ false → c ≡ first_of (at t p)
-      → AtPair f m t (record { place = p; circuit = c }) p (p + 1)
-  row_enter {p} {r} w h e n k =
-      record { long = w.long; left = w.left ∙ rw (add-one p, k) (ap (λ l. first_hit f (pairs_of l)) (next_alone m t w.long p h (sym e ∙ not-false r n))) }
+  pub row_enter : {p : ℕ} {c : Circuit} → AtRow f m t p → p < m → at t p ≡ alone c → AtPair f m t (record { place = p; circuit = c }) p (p + 1)
+  row_enter {p} {c} w h k =
+      let e : is_alone (at t p) ≡ true = rw k in
+      let is : first_of (at t p) ≡ c = rw k in
+      record { long = w.long; left = w.left ∙ rw (add-one p, ← is) (ap (λ l. first_hit f (pairs_of l)) (next_alone m t w.long p h e)) }
 
   -- after its last pair comes the next row
   pub row_leave : {a : Standing} {p q : ℕ} → AtPair f m t a p q → m ≤ q → AtRow f m t (p + 1)
   row_leave {a} {p} {q} w h = record { long = w.long; left = rw (past_places m t w.long q h) at w.left }
 
-  -- a pair that fails is passed over, as is a place with no circuit alone
-  pub pair_miss : {a : Standing} {p q : ℕ} {r : Bool} → AtPair f m t a p q → q < m → r ≡ (is_alone (at t q) && f (a, record { place = q; circuit = first_of (at t q) }))
-      → r ≡ false → AtPair f m t a p (q + 1)
-  pair_miss {a} {p} {q} w h e n = go (is_alone (at t q)) refl
-    where
-      go : (o : Bool) → is_alone (at t q) ≡ o → AtPair f m t a p (q + 1)
-      go true k =
-          let fails : f (a, there t q) ≡ false = rw k at (sym e ∙ n) in
-          record {
-            long = w.long;
-            left =
-                (rw (next_alone m t w.long q h k) at w.left)
-                ∙ hit_miss f (a, there t q) (pairs_with a (standing_from m t (suc q)) ++ pairs_of (standing_from m t (p + 1))) fails ∙ rw (add-one q);
-          }
-      go false k = record { long = w.long; left = rw (add-one q) (rw (next_other m t w.long q h k) at w.left) }
+  -- a place with no circuit alone is passed over
+  pub pair_none : {a : Standing} {p q : ℕ} → AtPair f m t a p q → q < m → is_alone (at t q) ≡ false → AtPair f m t a p (q + 1)
+  pair_none {a} {p} {q} w h k = record { long = w.long; left = rw (add-one q) (rw (next_other m t w.long q h k) at w.left) }
 
-  -- one that passes is the first
-  pub pair_hit : {a : Standing} {p q : ℕ} {r : Bool} {c : Circuit} → AtPair f m t a p q → q < m
-      → r ≡ (is_alone (at t q) && f (a, record { place = q; circuit = first_of (at t q) })) → r ≡ true → c ≡ first_of (at t q)
-      → record { found = true; first = a; second = record { place = q; circuit = c } } ≡ first_hit f (pairs_of (nonsharing m t))
-  pair_hit {a} {p} {q} w h e n k =
-      let both = sym e ∙ n in
-      let here = and_left (is_alone (at t q)) _ both in
-      let passes = and_right (is_alone (at t q)) _ both in
-      sym ((rw (next_alone m t w.long q h here) at w.left) ∙ found passes ∙ rw k)
-    where
-      found : f (a, there t q) ≡ true
-          → first_hit f ((a, there t q) ∷ (pairs_with a (standing_from m t (suc q)) ++ pairs_of (standing_from m t (p + 1))))
-          ≡ record { found = true; first = a; second = there t q }
-      found i = rw i
+  module _ {a : Standing} {p q : ℕ} {c : Circuit} (w : AtPair f m t a p q) (h : q < m) (k : at t q ≡ alone c) where
+    left_here : first_hit f (pairs_of (nonsharing m t))
+        ≡ first_hit f ((a, record { place = q; circuit = c }) ∷ (pairs_with a (standing_from m t (suc q)) ++ pairs_of (standing_from m t (p + 1))))
+    left_here =
+        let e : is_alone (at t q) ≡ true = rw k in
+        let is : first_of (at t q) ≡ c = rw k in
+        rw (← is) (rw (next_alone m t w.long q h e) at w.left)
+
+    -- a pair that fails is passed over
+    pub pair_miss : {r : Bool} → r ≡ f (a, record { place = q; circuit = c }) → r ≡ false → AtPair f m t a p (q + 1)
+    pair_miss e n = record {
+      long = w.long;
+      left =
+          left_here
+          ∙ hit_miss f (a, record { place = q; circuit = c }) (pairs_with a (standing_from m t (suc q)) ++ pairs_of (standing_from m t (p + 1))) (sym e ∙ n)
+          ∙ rw (add-one q);
+    }
+
+    -- one that passes is the first
+    pub pair_hit : {r : Bool} → r ≡ f (a, record { place = q; circuit = c }) → r ≡ true
+        → Some (record { first = a; second = record { place = q; circuit = c } }) ≡ first_hit f (pairs_of (nonsharing m t))
+    pair_hit e n = sym (left_here ∙ found (sym e ∙ n))
+      where
+        found : f (a, record { place = q; circuit = c }) ≡ true
+            → first_hit f ((a, record { place = q; circuit = c }) ∷ (pairs_with a (standing_from m t (suc q)) ++ pairs_of (standing_from m t (p + 1))))
+            ≡ Some (record { first = a; second = record { place = q; circuit = c } })
+        found i = rw i
 
   -- past the last row there is none
-  pub rows_end : {p : ℕ} → AtRow f m t p → m ≤ p
-      → record { found = false; first = blank_standing; second = blank_standing } ≡ first_hit f (pairs_of (nonsharing m t))
+  pub rows_end : {p : ℕ} → AtRow f m t p → m ≤ p → None ≡ first_hit f (pairs_of (nonsharing m t))
   rows_end {p} w h = sym (rw (past_places m t w.long p h) at w.left)
 
--- A pair by the tests of the code. Two that are not adjacent can share in no direction.
-not_right : (N : ℕ) (a b x : Standing) → adjacent a.circuit b.circuit ≡ false → stands_right N a b x ≡ false
-not_right N a b x e = rw (apart_never N (direction_of x.place) a.circuit b.circuit e) (and-false (ltb x.place nowhere))
-
-module _ (N m : ℕ) (room : Room) (a b : Standing) where
-  pub not_joinable : (o r : Bool) → o ≡ adjacent a.circuit b.circuit → o ≡ false → r ≡ false → r ≡ joinable_in N m room (a, b)
-  not_joinable o r e f g = let z = sym e ∙ f in g ∙ sym (rw (not_right N a b a z, not_right N a b b z, z))
-
-  pub first_joinable : (o r : Bool) → o ≡ stands_right N a b a → o ≡ true → r ≡ true → r ≡ joinable_in N m room (a, b)
-  first_joinable o r e f g = g ∙ sym (rw (sym e ∙ f))
-
-  pub second_joinable : (o p r : Bool) → o ≡ stands_right N a b a → o ≡ false → p ≡ stands_right N a b b → p ≡ true → r ≡ true
-      → r ≡ joinable_in N m room (a, b)
-  second_joinable o p r e f h k g = g ∙ sym (rw (sym e ∙ f, sym h ∙ k))
-
-  pub room_joinable : (o p q : Bool) (d : Direction) (u : ℕ) → q ≡ adjacent a.circuit b.circuit → q ≡ true → o ≡ stands_right N a b a → o ≡ false
-      → p ≡ stands_right N a b b → p ≡ false → d ≡ share_direction N a.circuit b.circuit → u ≡ lowest_of room d → ltb u m ≡ joinable_in N m room (a, b)
-  room_joinable o p q d u i j e f h k l n =
-      ap (λ v. ltb v m) (n ∙ ap (lowest_of room) l) ∙ sym (last _ _ _ (ltb (lowest_of room (share_direction N a.circuit b.circuit)) m) (sym e ∙ f) (sym h ∙ k) (sym i ∙ j))
-    where
-      last : (x y z w : Bool) → x ≡ false → y ≡ false → z ≡ true → (x || y || (z && w)) ≡ w
-      last x y z w e f g = rw (e, f, g)
-
--- what stands at a place is a circuit alone, and it is asked
-pub alone_joinable : (N m : ℕ) (room : Room) (a : Standing) (s : Slot) (p : ℕ) (o r : Bool) (c : Circuit) → o ≡ is_alone s → o ≡ true → c ≡ first_of s
-    → r ≡ joinable_in N m room (a, record { place = p; circuit = c })
-    → r ≡ (is_alone s && joinable_in N m room (a, record { place = p; circuit = first_of s }))
-alone_joinable N m room a s p o r c e f g h = h ∙ sym (rw (sym e ∙ f, g))
-
-pub ruleset joining = (alone_joinable, not_joinable, first_joinable, second_joinable, room_joinable, not-true, not-false)
-
-pub ruleset seek = (array_length, rows_start, row_none, row_enter, row_leave, pair_miss, pair_hit, rows_end)
+pub ruleset seek = (array_length, rows_start, row_none, row_enter, row_leave, pair_none, pair_miss, pair_hit, rows_end)

@@ -7,7 +7,8 @@ use Rattle.moves.specs.Appends.{Appends}
 use Rattle.tidying.specs.Round.{Round}
 use Rattle.tidying.specs.Tidying.{Tidying, most_rounds}
 use Rattle.rounds.specs.Joined.{Joinable}
-use Rattle.rounds.specs.declared.Next.{Next}
+use Rattle.rounds.specs.declared.Room.{Room}
+use Rattle.rounds.specs.declared.Hit.{Hit}
 pub use Rattle.rounds.specs.declared.TidiedPlaces.{TidiedPlaces}
 
 -- a tidying by value
@@ -15,8 +16,8 @@ abbrev pub tidied_places : Tidying → TidiedPlaces
 tidied_places o = record { channels = o.places; rounds = o.rounds; moves = list_of o.moves }
 
 -- what one round more counts on: a pair that can be joined, and room for its two moves
-pub record CanGoOn (N : ℕ) (next : Next) (r : TidiedPlaces) : Type 0 where
-  pub pair : Joinable N next.room next.hit.first next.hit.second
+pub record CanGoOn (N : ℕ) (room : Room) (hit : Hit) (r : TidiedPlaces) : Type 0 where
+  pub pair : Joinable N room hit.first hit.second
   pub records : r.moves.count + 2 ≤ tidy_records
   pub few : r.rounds < most_rounds
 

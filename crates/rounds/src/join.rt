@@ -2,7 +2,6 @@
 
 ghost use Rattle.std.specs.Prelude.{◌≡◌, ◌<◌};
 ghost use Rattle.limits.specs.Limits.{place_count};
-ghost use Rattle.slots.specs.Slot.{together};
 ghost use Rattle.slots.specs.declared.Slot.TheVariants.{Unlit as unlit};
 ghost use Rattle.channels.specs.Change.{◌gets◌};
 ghost use Rattle.tidying.specs.Round.{to_member, to_unlit};
@@ -23,25 +22,14 @@ fn left(place: usize) -> Change
     }
 }
 
-// Two circuits come together at a place.
-fn shared(place: usize, a: Standing, b: Standing) -> Change
-    ensures { result ≡ place gets together a.circuit b.circuit }
-{
-    Change {
-        place,
-        slot: Slot::together(a.circuit, b.circuit),
-    }
-}
-
 // a stays, and b moves to it.
 fn to_member(a: Standing, b: Standing) -> Joined
     requires { (a.place < place_count) × (b.place < place_count) }
     ensures { Joins (to_member a b) result }
 {
-    let stays = a.place;
     Joined {
-        changes: Changes::two(shared(stays, a, b), left(b.place)),
-        moves: Moves::one(plan::moves_to(b, stays)),
+        changes: Changes::two(plan::shared(a.place, a.circuit, b.circuit), left(b.place)),
+        moves: Moves::one(plan::moves_to(b, a.place)),
     }
 }
 
@@ -51,7 +39,11 @@ fn to_unlit(place: usize, a: Standing, b: Standing) -> Joined
     ensures { Joins (to_unlit place a b) result }
 {
     Joined {
-        changes: Changes::three(shared(place, a, b), left(a.place), left(b.place)),
+        changes: Changes::three(
+            plan::shared(place, a.circuit, b.circuit),
+            left(a.place),
+            left(b.place),
+        ),
         moves: Moves::two(plan::moves_to(a, place), plan::moves_to(b, place)),
     }
 }
@@ -63,11 +55,11 @@ pub fn joined(nodes: u8, room: Room, a: Standing, b: Standing) -> Joined
     ensures { Joins (join_in nodes room a b) result }
 {
     if plan::stands_right(nodes, a, b, a) {
-        return to_member(a, b);
+        to_member(a, b)
+    } else if plan::stands_right(nodes, a, b, b) {
+        to_member(b, a)
+    } else {
+        let direction = a.circuit.share_direction(b.circuit, nodes);
+        to_unlit(room.lowest(direction), a, b)
     }
-    if plan::stands_right(nodes, a, b, b) {
-        return to_member(b, a);
-    }
-    let direction = a.circuit.share_direction(b.circuit, nodes);
-    to_unlit(room.lowest(direction), a, b)
 }

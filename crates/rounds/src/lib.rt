@@ -23,18 +23,17 @@ pub struct Room {
     pub counterclockwise: usize,
 }
 
-// A pair that can be joined, where there is one.
+// A pair that can be joined.
 #[derive(Clone, Copy)]
 pub struct Hit {
-    pub found: bool,
     pub first: Standing,
     pub second: Standing,
 }
 
-// The pair of the next round, and the room that there is for it.
+// The pair of the next round, where there is one, and the room that there is for it.
 #[derive(Clone, Copy)]
 pub struct Next {
-    pub hit: Hit,
+    pub hit: Option<Hit>,
     pub room: Room,
 }
 
@@ -54,21 +53,15 @@ pub struct TidiedPlaces {
 }
 
 // One round more: its pair is joined.
-fn carry_out(nodes: u8, next: Next, tidied: TidiedPlaces) -> TidiedPlaces
-    requires { CanGoOn nodes next tidied }
-    ensures { After (join_in nodes next.room next.hit.first next.hit.second) tidied result }
+fn carry_out(nodes: u8, room: Room, hit: Hit, tidied: TidiedPlaces) -> TidiedPlaces
+    requires { CanGoOn nodes room hit tidied }
+    ensures { After (join_in nodes room hit.first hit.second) tidied result }
 {
-    let hit = next.hit;
-    let joined = join::joined(nodes, next.room, hit.first, hit.second);
-    let channels = tidied.channels;
-    let moves = tidied.moves;
-    let changes = joined.changes;
-    let channels = channels::changed(channels, changes);
-    let moves = moves.with(joined.moves);
+    let joined = join::joined(nodes, room, hit.first, hit.second);
     TidiedPlaces {
-        channels,
+        channels: channels::changed(tidied.channels, joined.changes),
         rounds: tidied.rounds + 1,
-        moves,
+        moves: tidied.moves.with(joined.moves),
     }
 }
 
@@ -88,11 +81,9 @@ pub fn tidy(nodes: u8, limit: usize, channels: [Channel; PLACE_COUNT]) -> Tidied
         rounds: 0,
         moves: MoveList::none(),
     };
-    while next.hit.found {
-        tidied = carry_out(nodes, next, tidied);
-        let channels = tidied.channels;
-        let hit = next.hit;
-        next = search::next_round(nodes, limit, channels, next.room, hit.first.place);
+    while let Some(hit) = next.hit {
+        tidied = carry_out(nodes, next.room, hit, tidied);
+        next = search::next_round(nodes, limit, tidied.channels, next.room, hit.first.place);
     }
     tidied
 }

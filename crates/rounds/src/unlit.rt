@@ -18,11 +18,7 @@ fn unlit_in(slot: Slot, place: usize, direction: Direction) -> bool
     requires { place < place_count }
     ensures { result ≡ (is_unlit slot && same_direction (direction_of place) direction) }
 {
-    if !slot.is_unlit() {
-        return false;
-    }
-    let place = place as u8;
-    Place(place).direction().same(direction)
+    slot.is_unlit() && Place(place as u8).direction() == direction
 }
 
 // The lowest unlit place of a direction below a limit, or the limit.
@@ -30,14 +26,10 @@ fn lowest_unlit(channels: [Channel; PLACE_COUNT], limit: usize, direction: Direc
     requires { limit ≤ place_count }
     ensures { result ≡ lowest_in is_unlit limit channels direction }
 {
-    let mut p: usize = 0;
-    while p < limit {
-        let channel = channels[p];
-        let slot = channel.slot;
-        if unlit_in(slot, p, direction) {
-            return p;
+    for (place, channel) in channels[..limit].iter().enumerate() {
+        if unlit_in(channel.slot, place, direction) {
+            return place;
         }
-        p += 1;
     }
     limit
 }
@@ -57,10 +49,7 @@ pub fn room_of(channels: [Channel; PLACE_COUNT], limit: usize) -> Room
 fn comes_below(before: usize, now: usize, limit: usize) -> bool
     ensures { result ≡ (leb limit before && ltb now limit) }
 {
-    if before < limit {
-        return false;
-    }
-    now < limit
+    limit <= before && now < limit
 }
 
 impl Room {
@@ -78,9 +67,7 @@ impl Room {
     pub fn gains(self, before: Room, limit: usize) -> bool
         ensures { result ≡ gains limit before self }
     {
-        if comes_below(before.clockwise, self.clockwise, limit) {
-            return true;
-        }
-        comes_below(before.counterclockwise, self.counterclockwise, limit)
+        comes_below(before.clockwise, self.clockwise, limit)
+            || comes_below(before.counterclockwise, self.counterclockwise, limit)
     }
 }

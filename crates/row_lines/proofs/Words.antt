@@ -27,6 +27,8 @@ use Rattle.buffer.proofs.Put.{put_put}
 use Rattle.text.specs.Bytes.{bytes}
 use Rattle.print.specs.Answers.{piece}
 use Rattle.print.specs.Filled.{filled, filled_room}
+use Rattle.row_lines.specs.declared.Listed.{Listed}
+use Rattle.row_lines.specs.declared.Listed.TheVariants.{From, To}
 use Rattle.row_lines.specs.Lines.{sent_line, received_line, entry_line, entry_lines, first_line, row_text, from_text, first_room, entry_room, entry_lines_room, from_room}
 
 -- the line of an entry
@@ -34,28 +36,28 @@ module _ (key rest : ℕ) (m : Standing) (e : m ≡ entry_of key rest) where
   pub place_small : m.place < 2 ^ 32
   place_small = rw e (omega (arith, entry_place key rest))
 
-  module _ (to : Bool) (l l' : List ℕ) (at k : ℕ) where
-    pub received_line_lem : to ≡ true → Printed entry_room l at (filled (bytes "circuit # from # place #\n") m.circuit.number m.circuit.destination m.place 0) l' k
-        → Printed entry_room l at (entry_line to (entry_of key rest)) l' k
+  module _ (way : Listed) (l l' : List ℕ) (at k : ℕ) where
+    pub received_line_lem : way ≡ To → Printed entry_room l at (filled (bytes "circuit # from # place #\n") m.circuit.number m.circuit.destination m.place 0) l' k
+        → Printed entry_room l at (entry_line way (entry_of key rest)) l' k
     unfolding filled piece received_line
     received_line_lem is p = rw (is, ← e) p
 
-    pub sent_line_lem : to ≡ false
+    pub sent_line_lem : way ≡ From
         → Printed (filled_room (bytes "circuit # to # place #\n")) l at (filled (bytes "circuit # to # place #\n") m.circuit.number m.circuit.destination m.place 0) l' k
-        → Printed entry_room l at (entry_line to (entry_of key rest)) l' k
+        → Printed entry_room l at (entry_line way (entry_of key rest)) l' k
     unfolding filled piece sent_line
     sent_line_lem is p = record { put = rw (is, ← e) p.put; short = omega (arith, p.short) }
 
 pub ruleset entry_words = (place_small, received_line_lem, sent_line_lem)
 
 -- the first line
-module _ (to : Bool) (node count : ℕ) (l l' : List ℕ) (at k : ℕ) where
-  pub first_to : to ≡ true → Printed (filled_room (bytes "to # circuits #\n")) l at (filled (bytes "to # circuits #\n") node count 0 0) l' k
-      → Printed first_room l at (first_line to node count) l' k
+module _ (way : Listed) (node count : ℕ) (l l' : List ℕ) (at k : ℕ) where
+  pub first_to : way ≡ To → Printed (filled_room (bytes "to # circuits #\n")) l at (filled (bytes "to # circuits #\n") node count 0 0) l' k
+      → Printed first_room l at (first_line way node count) l' k
   unfolding filled piece first_line
   first_to is p = record { put = rw is p.put; short = omega (arith, p.short) }
 
-  pub first_from : to ≡ false → Printed first_room l at (filled (bytes "from # circuits #\n") node count 0 0) l' k → Printed first_room l at (first_line to node count) l' k
+  pub first_from : way ≡ From → Printed first_room l at (filled (bytes "from # circuits #\n") node count 0 0) l' k → Printed first_room l at (first_line way node count) l' k
   unfolding filled piece first_line
   first_from is p = rw is p
 
@@ -68,10 +70,10 @@ entries_long (k ∷ keys) [] h = absurd (omega arith)
 entries_long (k ∷ keys) (r ∷ rests) h = omega (arith, entries_long keys rests (omega arith))
 
 -- the first line and those of the entries
-pub row_put : (to : Bool) (node : ℕ) (keys rests : List ℕ) (l l1 l2 : List ℕ) (at i j : ℕ) → length rests ≡ length keys
-    → Printed first_room l at (first_line to node (length keys)) l1 i → Printed entry_lines_room l1 i (entry_lines to (entries_in keys rests)) l2 j
-    → Printed from_room l at (row_text to node (entries_in keys rests)) l2 j
-row_put to node keys rests l l1 l2 at i j same p q =
+pub row_put : (way : Listed) (node : ℕ) (keys rests : List ℕ) (l l1 l2 : List ℕ) (at i j : ℕ) → length rests ≡ length keys
+    → Printed first_room l at (first_line way node (length keys)) l1 i → Printed entry_lines_room l1 i (entry_lines way (entries_in keys rests)) l2 j
+    → Printed from_room l at (row_text way node (entries_in keys rests)) l2 j
+row_put way node keys rests l l1 l2 at i j same p q =
     record { put = rw (entries_long keys rests same) (put_put p.put q.put); short = omega (arith, p.short, q.short) }
 
 -- a node off the ring
@@ -94,7 +96,7 @@ module _ (N : ℕ) (ks : List ℕ) (t : Channels) (keys rests : List ℕ) (count
     keys_few = omega (arith, keys_long N ks t keys rests count h node r e, held_sends N ks t keys rests count h node r e, sends_most N ks t (rules_hold N ks t h.rules) node (rw is at there))
 
     -- so the answer is that of its entries
-    pub from_row : (l l' : List ℕ) (at k : ℕ) → Printed from_room l at (row_text false node (entries_in (take (r.end - r.start) (drop r.start keys)) (take (r.end - r.start) (drop r.start rests)))) l' k
+    pub from_row : (l l' : List ℕ) (at k : ℕ) → Printed from_room l at (row_text From node (entries_in (take (r.end - r.start) (drop r.start keys)) (take (r.end - r.start) (drop r.start rests)))) l' k
         → Printed from_room l at (from_text N t node) l' k
     unfolding from_text
     from_row l l' at k p = rw (← is, there) (rw (held_row N ks t keys rests count h node r e) at p)

@@ -22,7 +22,7 @@ use slots::Slot;
 
 // What a row shows, in the picture's order: the nodes at which the links begin, and those at which they end, clockwise; what runs at a
 // place; the loads each way round; the nodes, their free transmitters and their free receivers.
-#[derive(Clone, Copy)]
+#[derive(Clone, Copy, Debug, PartialEq, Eq)]
 pub enum Row {
     From,
     To,
@@ -35,7 +35,7 @@ pub enum Row {
 }
 
 // An end of a circuit: its source, which takes a transmitter, or its destination, which takes a receiver.
-#[derive(Clone, Copy)]
+#[derive(Clone, Copy, Debug, PartialEq, Eq)]
 pub enum End {
     Source,
     Destination,
@@ -45,10 +45,7 @@ pub enum End {
 fn next_node(nodes: u8, node: u8) -> u8
     ensures { result ≡ next nodes node }
 {
-    if node < nodes {
-        return node + 1;
-    }
-    1
+    if node < nodes { node + 1 } else { 1 }
 }
 
 // How many circuits at a place have a node at an end.
@@ -65,29 +62,18 @@ fn used_at(slot: Slot, end: End, node: u8) -> usize
 pub fn used(channels: [Channel; PLACE_COUNT], end: End, node: u8) -> usize
     ensures { result ≡ tally (node_at end) node (circuits channels) }
 {
-    let mut count: usize = 0;
-    let mut place: usize = 0;
-    while place < PLACE_COUNT {
-        let channel = channels[place];
-        let slot = channel.slot;
-        count += used_at(slot, end, node);
-        place += 1;
-    }
-    count
+    channels
+        .iter()
+        .map(|channel| used_at(channel.slot, end, node))
+        .sum()
 }
 
 // How many of a node's transmitters or receivers are free.
 fn free(table: RingTable, end: End, node: u8) -> u64
     ensures { result ≡ ports_at table.ports node - tally (node_at end) node (circuits table.channels) }
 {
-    let ports = table.ports;
-    let channels = table.channels;
-    let all = ports::ports_of(ports, node) as usize;
-    let used = used(channels, end, node);
-    if all < used {
-        return 0;
-    }
-    (all - used) as u64
+    let all = ports::ports_of(table.ports, node) as usize;
+    all.saturating_sub(used(table.channels, end, node)) as u64
 }
 
 // The load of a link in a direction, out of the bytes of a load report.
@@ -133,13 +119,10 @@ pub fn numbers_of(table: RingTable, row: Row) -> [u64; PORT_FIELDS]
     ensures { Numbered table row table.nodes result }
 {
     let mut loads = [0u8; MOST_LOADS];
-    load::report_valid(table, &mut loads);
+    let _ = load::report_valid(table, &mut loads);
     let mut numbers = [0u64; PORT_FIELDS];
-    let mut i: u8 = 0;
-    while i < table.nodes {
-        let n = number_at(table, &loads, row, i + 1);
-        numbers[i as usize] = n;
-        i += 1;
+    for i in 0..table.nodes {
+        numbers[i as usize] = number_at(table, &loads, row, i + 1);
     }
     numbers
 }

@@ -1,4 +1,4 @@
--- What `row_of` and `position` find among rising keys. `search (rules, found)` finds their answers. Assumes nothing.
+-- What `row_of` and `position` find among rising keys. Assumes nothing.
 use Prim.Native.Nat.{ℕ, suc, ◌+◌, ◌^◌, ◌≤◌, ◌<◌}
 use mathlib.Core.Path.{◌≡◌, sym, ap, ◌∙◌}
 use mathlib.Core.Logic.{◌≢◌}
@@ -52,28 +52,13 @@ module _ (l : List ℕ) (k : ℕ) where
               let other : get_or l (rank_of k l) 0 ≢ k = n (omega arith) in
               ne_eqb (get_or l i 0) k (λ e. other (omega (arith, rank_from k l up (rank_of k l) (omega arith) (omega arith), up.below (rank_of k l) i (omega arith) h)))
 
-module _ (keys : List ℕ) (count node first number at : ℕ) (h : (count ≤ length keys) × Rising (take count keys)) (f : first ≡ row_key node)
-    (r : at ≡ rank_of (first + number) (take count keys)) where
-  long : length (take count keys) ≡ count
-  long = length-take-le count keys h.0
-
-  -- the key at that position
-  there : at < count → get_or (take count keys) (rank_of (first + number) (take count keys)) 0 ≡ get_or keys at 0
-  there l = rw (← r) (get_or-take count keys at 0 l)
-
+module _ (keys : List ℕ) (node number key at : ℕ) (up : Rising keys) (f : key ≡ row_key node + number) (r : at ≡ rank_of key keys) where
   -- the key at its rank is the one looked for
-  pub position_hit : at < count → get_or keys at 0 ≡ first + number → at ≡ position_in (take count keys) node number
+  pub position_hit : at < length keys → get_or keys at 0 ≡ key → at ≡ position_in keys node number
   unfolding position_in
-  position_hit l e = r ∙ stands_there (take count keys) (first + number) (omega (arith, long)) (there l ∙ e) ∙ rw f
+  position_hit l e = r ∙ stands_there keys key (rw r at l) (rw r at e) ∙ rw f
 
-  -- it is another
-  pub position_miss : at < count → (get_or keys at 0 ≡ first + number → ⊥) → count ≡ position_in (take count keys) node number
+  -- it is another, or there is none
+  pub position_miss : (at < length keys → get_or keys at 0 ≡ key → ⊥) → position_in keys node number ≡ length keys
   unfolding position_in
-  position_miss l n = sym long ∙ stands_nowhere (take count keys) (first + number) h.1 (λ m e. n (sym (there l) ∙ e)) ∙ rw f
-
-  -- or there is none
-  pub position_end : count ≤ at → count ≡ position_in (take count keys) node number
-  unfolding position_in
-  position_end l = sym long ∙ stands_nowhere (take count keys) (first + number) h.1 (λ m. absurd (omega (arith, long))) ∙ rw f
-
-pub ruleset found = (row_found, position_hit, position_miss, position_end)
+  position_miss n = sym (stands_nowhere keys key up (λ l e. n (rw r l) (rw r e)) ∙ rw f)

@@ -94,6 +94,12 @@ module _ (N : ℕ) (ks : List ℕ) (t : Channels) (keys rests : List ℕ) (count
   pub held_rising : (count ≤ length keys) × Rising (take count keys)
   held_rising = (omega (arith, few, held_room_lem), rw (held_keys N ks t keys rests count h) (ordered_rising (entries t) lists.ordered))
 
+  pub held_used : count ≤ length keys
+  held_used = held_rising.0
+
+  pub held_ordered : Rising (take count keys)
+  held_ordered = held_rising.1
+
   module _ (node : ℕ) (r : Row) (e : r ≡ row_in (take count keys) node) where
     is : r ≡ row_in (map key_in (entries t)) node
     is = e ∙ ap (λ l. row_in l node) (held_keys N ks t keys rests count h)
@@ -141,4 +147,4 @@ module _ (N : ℕ) (ks : List ℕ) (t : Channels) (keys rests : List ℕ) (count
         )
         (row_entries node (entries t) lists.ordered fields)
 
-pub ruleset held = (held_rising, held_order, held_keyed, held_rested, held_sends)
+pub ruleset held = (held_used, held_ordered, held_order, held_keyed, held_rested, held_sends)

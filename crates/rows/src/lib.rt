@@ -2,7 +2,7 @@
 
 #![tactic(auto)]
 
-ghost use Rattle.std.specs.Prelude.{◌≡◌, ◌≤◌, length, take};
+ghost use Rattle.std.specs.Prelude.{◌≡◌, ◌<◌, length, MatchOption};
 ghost use Rattle.entries.specs.Lists.{Rising};
 ghost use Rattle.rows.specs.Row.{row_in, position_in};
 
@@ -15,28 +15,27 @@ pub struct Row {
     pub end: usize,
 }
 
-// The row of a node among the first count keys.
-pub fn row_of(keys: &[u64], count: usize, node: u8) -> Row
-    requires { (count ≤ length keys.now) × Rising (take count keys.now) }
-    ensures { result ≡ row_in (take count keys.now) node }
+// The row of a node among keys.
+pub fn row_of(keys: &[u64], node: u8) -> Row
+    requires { Rising keys.now }
+    ensures { result ≡ row_in keys.now node }
 {
     let first = entries::row_key(node);
-    let start = entries::rank(keys, count, first);
-    let end = entries::rank(keys, count, first + NEXT_ROW);
-    Row { start, end }
+    Row {
+        start: entries::rank(keys, first),
+        end: entries::rank(keys, first + NEXT_ROW),
+    }
 }
 
-// Where a number stands in the row of a node, among the first count keys, or how many keys there are: a search by halves.
-pub fn position(keys: &[u64], count: usize, node: u8, number: u32) -> usize
-    requires { (count ≤ length keys.now) × Rising (take count keys.now) }
-    ensures { result ≡ position_in (take count keys.now) node number }
+// Where a number stands in the row of a node, among keys: a search by halves.
+pub fn position(keys: &[u64], node: u8, number: u32) -> Option<usize>
+    requires { Rising keys.now }
+    ensures { MatchOption result (position_in keys.now node number ≡ length keys.now) (λ i. (i ≡ position_in keys.now node number) × (i < length keys.now)) }
 {
-    let key = entries::row_key(node) + number as u64;
-    let at = entries::rank(keys, count, key);
-    if at < count {
-        if keys[at] == key {
-            return at;
-        }
+    let key = entries::row_key(node) + u64::from(number);
+    let at = entries::rank(keys, key);
+    if at < keys.len() && keys[at] == key {
+        return Some(at);
     }
-    count
+    None
 }

@@ -1,23 +1,21 @@
 -- The loops that set numbers side by side and compare each with each later one. `search (rules, apart)` finds their steps. Assumes nothing.
-use Prim.Native.Nat.{ℕ, zero, suc, ◌+◌, ◌≤◌, ◌<◌, suc-le-suc}
+use Prim.Native.Nat.{ℕ, zero, suc, ◌+◌, ◌-◌, ◌≤◌, ◌<◌, suc-le-suc}
 use mathlib.Core.Path.{◌≡◌, refl, sym, ap, ◌∙◌}
 use mathlib.Core.Logic.{◌≢◌}
 use mathlib.Core.Bool.{Bool, true, false}
 use mathlib.Core.List.{List, [], ◌∷◌, map, map-append}
 use native.Mathlib.Decide.{ℕ_discrete}
-use native.Mathlib.Nat.{le_of_suc-le-suc, not-suc-le-zero}
+use native.Mathlib.Nat.{add_assoc, le_of_suc-le-suc, not-suc-le-zero}
 use native.Mathlib.Numerals.{add-one}
 use native.Mathlib.Omega.{arith}
-use mir.Syntax.{w32}
-use mir.Val.{Fits, bool_byte}
+use mir.Val.{bool_byte}
 use borrow.Author.Tests.{eq-eqb, ne_eqb}
 use lib.Dec.{eqb}
-use lib.ListN.{length, get_or, set, take, replicate, length-set, length-replicate}
-use lib.Seq.{get_or-take, length-take-le, take-suc, take-suc-set}
+use lib.ListN.{length, get_or, set, take, drop, replicate, length-set, length-replicate}
+use lib.Seq.{get_or-take, get_or-drop, take-length, take-suc, take-suc-set}
 use Rattle.basis.specs.Count.{tally, distinct}
-use Rattle.basis.proofs.Bools.{fails, bit_eq, bit_ne, byte_bit}
-use Rattle.basis.proofs.Weigh.{bit_most, distinct_most, most_distinct, distinct_map}
-use Rattle.limits.specs.Limits.{circuit_room}
+use Rattle.basis.proofs.Bools.{fails, bit_eq, bit_ne}
+use Rattle.basis.proofs.Weigh.{distinct_most, most_distinct, distinct_map}
 use Rattle.lightpath.specs.Circuit.{blank_circuit}
 use Rattle.lightpath.specs.declared.Circuit.{Circuit}
 
@@ -25,27 +23,28 @@ use Rattle.lightpath.specs.declared.Circuit.{Circuit}
 abbrev pub number_at : List ℕ → ℕ → ℕ
 number_at ns i = get_or ns i 0
 
--- every position before i is told apart from every later one below n
-pub record Told (ns : List ℕ) (n i : ℕ) : Type 0 where
-  pub before : (a b : ℕ) → a < i → a < b → b < n → number_at ns a ≢ number_at ns b
+-- every position before i is told apart from every later one
+pub record Told (ns : List ℕ) (i : ℕ) : Type 0 where
+  pub before : (a b : ℕ) → a < i → a < b → b < length ns → number_at ns a ≢ number_at ns b
 
 -- and i from those before j
 pub record Telling (ns : List ℕ) (i j : ℕ) : Type 0 where
   pub from : (b : ℕ) → i < b → b < j → number_at ns i ≢ number_at ns b
 
 -- the start of the outer loop
-pub told_start : (ns : List ℕ) (n : ℕ) → Told ns n 0
-told_start ns n = record { before = λ a b l k m. absurd (not-suc-le-zero l) }
+pub told_start : (ns : List ℕ) → Told ns 0
+told_start ns = record { before = λ a b l k m. absurd (not-suc-le-zero l) }
 
--- what the inner loop knows, having met the number at i so many times before j: none, and it is told apart; or some, and two are alike
-pub record Compared (ns : List ℕ) (n i j k : ℕ) : Type 0 where
-  pub apart : k ≡ 0 → Telling ns i j
-  pub alike : 0 < k → false ≡ distinct (λ k. k) (take n ns)
+-- what the inner loop knows, having met the number at i so many times in the first j after it: none, and it is told apart; or some, and two
+-- are alike
+pub record Compared (ns : List ℕ) (i j k : ℕ) : Type 0 where
+  pub apart : k ≡ 0 → Telling ns i (i + 1 + j)
+  pub alike : 0 < k → false ≡ distinct (λ k. k) ns
   pub few : k ≤ j
 
 -- its start
-pub compared_start : (ns : List ℕ) (n i : ℕ) → Compared ns n i (i + 1) 0
-compared_start ns n i = record { apart = λ e. record { from = λ b l k. absurd (omega arith) }; alike = λ l. absurd (omega arith); few = omega arith }
+pub compared_start : (ns : List ℕ) (i : ℕ) → Compared ns i 0 0
+compared_start ns i = record { apart = λ e. record { from = λ b l k. absurd (omega arith) }; alike = λ l. absurd (omega arith); few = omega arith }
 
 -- one more that is another number
 telling_next : (ns : List ℕ) (i j : ℕ) → Telling ns i j → number_at ns j ≢ number_at ns i → Telling ns i (j + 1)
@@ -59,22 +58,22 @@ telling_next ns i j h n = record { from = step }
         go (no m) = h.from b l (omega arith)
 
 -- its end is the outer loop's step
-told_more : (ns : List ℕ) (n i j : ℕ) → Told ns n i → Telling ns i j → n ≤ j → Told ns n (i + 1)
-told_more ns n i j h t l = record { before = step }
+told_more : (ns : List ℕ) (i j : ℕ) → Told ns i → Telling ns i j → length ns ≤ j → Told ns (i + 1)
+told_more ns i j h t l = record { before = step }
   where
-    step : (a b : ℕ) → a < i + 1 → a < b → b < n → number_at ns a ≢ number_at ns b
+    step : (a b : ℕ) → a < i + 1 → a < b → b < length ns → number_at ns a ≢ number_at ns b
     step a b k m q = go (ℕ_discrete a i)
       where
         go : Dec (a ≡ i) → number_at ns a ≢ number_at ns b
         go (yes e) = rw e (t.from b (omega arith) (omega arith))
         go (no z) = h.before a b (omega arith) m q
 
-pub told_next : (ns : List ℕ) (n i j k : ℕ) → Told ns n i → Compared ns n i j k → k ≤ 0 → n ≤ j → Told ns n (i + 1)
-told_next ns n i j k h t e l = told_more ns n i j h (t.apart (omega arith)) l
+pub told_next : (ns : List ℕ) (i j k : ℕ) → Told ns i → Compared ns i j k → k ≤ 0 → length ns - (i + 1) ≤ j → Told ns (i + 1)
+told_next ns i j k h t e l = told_more ns i (i + 1 + j) h (t.apart (omega arith)) (omega arith)
 
 -- or that of all, where two are alike
-pub met_again : (ns : List ℕ) (n i j k : ℕ) → Compared ns n i j k → 0 < k → false ≡ distinct (λ k. k) (take n ns)
-met_again ns n i j k h l = h.alike l
+pub met_again : (ns : List ℕ) (i j k : ℕ) → Compared ns i j k → 0 < k → false ≡ distinct (λ k. k) ns
+met_again ns i j k h l = h.alike l
 
 -- a number that some position has is counted
 has_tally : (ns : List ℕ) (b k : ℕ) → b < length ns → number_at ns b ≡ k → 0 < tally (λ k. k) k ns
@@ -88,7 +87,7 @@ none_tally [] k h = refl
 none_tally (x ∷ ns) k h = omega (arith, bit_ne (x) k (h 0 (omega arith)), none_tally ns k (λ b l. h (suc b) (suc-le-suc l)))
 
 -- where every position is told apart from every later one, numbers are distinct
-told_distinct : (ns : List ℕ) → Told ns (length ns) (length ns) → distinct (λ k. k) ns ≡ true
+told_distinct : (ns : List ℕ) → Told ns (length ns) → distinct (λ k. k) ns ≡ true
 told_distinct ns h = most_distinct (λ k. k) ns (most ns h.before)
   where
     most : (ns : List ℕ) → ((a b : ℕ) → a < length ns → a < b → b < length ns → number_at ns a ≢ number_at ns b)
@@ -112,77 +111,53 @@ alike_tally (x ∷ ns) zero (suc b) l m e =
 alike_tally (x ∷ ns) (suc a) zero l m e = absurd (not-suc-le-zero l)
 alike_tally (x ∷ ns) (suc a) (suc b) l m e = omega (arith, alike_tally ns a b (le_of_suc-le-suc l) (le_of_suc-le-suc m) e)
 
--- the first n numbers are the numbers
-number_take : (ns : List ℕ) (n i : ℕ) → i < n → number_at (take n ns) i ≡ number_at ns i
-number_take ns n i l = get_or-take n ns i 0 l
-
--- all told apart: the first n are distinct
-pub told_end : (ns : List ℕ) (w n i : ℕ) → Told ns n i → length ns ≡ w → n ≤ w → n ≤ i → true ≡ distinct (λ k. k) (take n ns)
-told_end ns w n i h e m l =
-    let z = length-take-le n ns (omega arith) in
-    sym
-    (told_distinct (take n ns)
-    (record {
-      before =
-          λ a b k q r. rw (number_take ns n a (omega arith), number_take ns n b (omega arith)) (h.before a b (omega arith) q (omega arith));
-    }))
+-- all told apart: they are distinct
+pub told_end : (ns : List ℕ) (i : ℕ) → Told ns i → length ns ≤ i → true ≡ distinct (λ k. k) ns
+told_end ns i h l = sym (told_distinct ns (record { before = λ a b k q r. h.before a b (omega arith) q r }))
 
 -- two alike: they are not
-told_hit : (ns : List ℕ) (w n i j : ℕ) → number_at ns j ≡ number_at ns i → length ns ≡ w → n ≤ w → i < j → j < n
-    → false ≡ distinct (λ k. k) (take n ns)
-told_hit ns w n i j e z m l k =
-    let long = length-take-le n ns (omega arith) in
-    fails (distinct (λ k. k) (take n ns))
-    (λ q. omega (
-      arith,
-      distinct_most (λ k. k) (take n ns) q (number_at (take n ns) i),
-      alike_tally (take n ns) i j l (omega arith) (rw (number_take ns n j k, number_take ns n i (omega arith)) e),
-    ))
+told_hit : (ns : List ℕ) (i j : ℕ) → number_at ns j ≡ number_at ns i → i < j → j < length ns → false ≡ distinct (λ k. k) ns
+told_hit ns i j e m l =
+    fails (distinct (λ k. k) ns) (λ q. omega (arith, distinct_most (λ k. k) ns q (number_at ns i), alike_tally ns i j m l e))
 
 -- the step of the inner loop
-pub compared_next : (ns : List ℕ) (w n i j k : ℕ) → Compared ns n i j k → length ns ≡ w → n ≤ w → i < j → j < n
-    → Compared ns n i (j + 1) (k + bool_byte (eqb (number_at ns j) (number_at ns i)))
-compared_next ns w n i j k h z m l o = go (ℕ_discrete (number_at ns j) (number_at ns i))
+pub compared_next : (ns : List ℕ) (i j k : ℕ) → Compared ns i j k → i + 1 + j < length ns
+    → Compared ns i (j + 1) (k + bool_byte (eqb (number_at (take (length ns - (i + 1)) (drop (i + 1) ns)) j) (number_at ns i)))
+compared_next ns i j k h o = rw (get_or-take (length ns - (i + 1)) (drop (i + 1) ns) j 0 (omega arith), get_or-drop) (go (ℕ_discrete (number_at ns (i + 1 + j)) (number_at ns i)))
   where
-    go : Dec (number_at ns j ≡ number_at ns i) → Compared ns n i (j + 1) (k + bool_byte (eqb (number_at ns j) (number_at ns i)))
-    go (yes e) = rw (eq-eqb (number_at ns j) (number_at ns i) e) (record {
+    go : Dec (number_at ns (i + 1 + j) ≡ number_at ns i) → Compared ns i (j + 1) (k + bool_byte (eqb (number_at ns (i + 1 + j)) (number_at ns i)))
+    go (yes e) = rw (eq-eqb (number_at ns (i + 1 + j)) (number_at ns i) e) (record {
       apart = λ u. absurd (omega arith);
-      alike = λ u. told_hit ns w n i j e z m l o;
+      alike = λ u. told_hit ns i (i + 1 + j) e (omega arith) o;
       few = omega (arith, h.few);
     })
-    go (no e) = rw (ne_eqb (number_at ns j) (number_at ns i) e) (record {
-      apart = λ u. telling_next ns i j (h.apart (omega arith)) e;
+    go (no e) = rw (ne_eqb (number_at ns (i + 1 + j)) (number_at ns i) e) (record {
+      apart = λ u. rw (← add_assoc (i + 1) j 1) (telling_next ns i (i + 1 + j) (h.apart (omega arith)) e);
       alike = λ u. h.alike (omega arith);
       few = omega (arith, h.few);
     })
 
--- the count fits
-pub compared_fits : (ns : List ℕ) (n i j k : ℕ) (x : Bool) → Compared ns n i j k → j < n → n ≤ circuit_room → Fits w32 (k + bool_byte x)
-compared_fits ns n i j k x h l m = record { fits = omega (arith, h.few, byte_bit x, bit_most x) }
+pub ruleset apart = (told_start, compared_start, told_next, met_again, told_end)
 
-pub ruleset apart = (told_start, compared_start, compared_next, compared_fits, told_next, met_again, told_end)
-
--- the numbers of the circuits before i stand side by side
-pub record Beside (cs : List Circuit) (ns : List ℕ) (i : ℕ) : Type 0 where
+-- the numbers of the circuits before i stand side by side, in an array with room for n
+pub record Beside (cs : List Circuit) (ns : List ℕ) (n i : ℕ) : Type 0 where
   pub are : take i ns ≡ map (λ c. c.number) (take i cs)
-  pub long : length ns ≡ length cs
+  pub long : length ns ≡ n
 
-pub beside_start : (cs : List Circuit) (w : ℕ) → length cs ≡ w → Beside cs (replicate w 0) 0
-beside_start cs w e = record { are = refl; long = length-replicate {A = ℕ} w 0 ∙ sym e }
+pub beside_start : (cs : List Circuit) (n : ℕ) → Beside cs (replicate n 0) n 0
+beside_start cs n = record { are = refl; long = length-replicate {A = ℕ} n 0 }
 
-pub beside_next : (cs : List Circuit) (w n : ℕ) (ns : List ℕ) (i : ℕ) → Beside cs ns i → length cs ≡ w → n ≤ w → i < n
-    → Beside cs (set ns i (get_or cs i blank_circuit).number) (i + 1)
-beside_next cs w n ns i h e m l = record { are = are; long = length-set ns i _ ∙ h.long }
+pub beside_next : (cs : List Circuit) (ns : List ℕ) (n i : ℕ) → Beside cs ns n i → i < length cs → length cs ≤ n
+    → Beside cs (set ns i (get_or cs i blank_circuit).number) n (i + 1)
+beside_next cs ns n i h l m = record { are = are; long = length-set ns i _ ∙ h.long }
   where
     are : take (i + 1) (set ns i (get_or cs i blank_circuit).number) ≡ map (λ c. c.number) (take (i + 1) cs)
-    are = rw (add-one, take-suc-set ns i (get_or cs i blank_circuit).number (omega (arith, h.long)), h.are, take-suc cs i blank_circuit (omega arith), map-append)
+    are = rw (add-one, take-suc-set ns i (get_or cs i blank_circuit).number (omega (arith, h.long)), h.are, take-suc cs i blank_circuit l, map-append)
 
-pub beside_end : (cs : List Circuit) (ns : List ℕ) (n i : ℕ) → Beside cs ns i → i ≤ n → n ≤ i → take n ns ≡ map (λ c. c.number) (take n cs)
-beside_end cs ns n i h l m = let e : i ≡ n = omega arith in rw e at h.are
-
-pub ruleset beside = (beside_start, beside_next, beside_end)
+pub beside_end : (cs : List Circuit) (ns : List ℕ) (n i : ℕ) → Beside cs ns n i → i ≡ length cs → take (length cs) ns ≡ map (λ c. c.number) cs
+beside_end cs ns n i h e = let k : take (length cs) ns ≡ map (λ c. c.number) (take (length cs) cs) = rw e at h.are in rw take-length at k
 
 -- numbers are distinct where those of the circuits are
-pub numbers_distinct : (cs : List Circuit) (ns : List ℕ) (n : ℕ) (r : Bool) → take n ns ≡ map (λ c. c.number) (take n cs) → r ≡ distinct (λ k. k) (take n ns)
-    → r ≡ distinct (λ c. c.number) (take n cs)
-numbers_distinct cs ns n r e h = h ∙ ap (distinct (λ k. k)) e ∙ distinct_map (λ c. c.number) (take n cs)
+pub numbers_distinct : (cs : List Circuit) (ns : List ℕ) (r : Bool) → ns ≡ map (λ c. c.number) cs → r ≡ distinct (λ k. k) ns
+    → r ≡ distinct (λ c. c.number) cs
+numbers_distinct cs ns r e h = h ∙ ap (distinct (λ k. k)) e ∙ distinct_map (λ c. c.number) cs

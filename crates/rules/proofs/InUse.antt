@@ -7,7 +7,7 @@ use native.Mathlib.Numerals.{add-one}
 use native.Mathlib.Omega.{arith}
 use lib.ListN.{length, get_or, take, set, replicate}
 use borrow.Author.Tests.{leb-true, le-leb}
-use lib.Seq.{take-suc}
+use lib.Seq.{take-length, take-suc}
 use mir.Syntax.{w16}
 use mir.Val.{Fits}
 use Rattle.basis.proofs.Bools.{and_left, and_right, and_both, same_test}
@@ -27,9 +27,9 @@ pub tallied_start : (key : Circuit → ℕ) (cs : List Circuit) → Tallied key 
 tallied_start key cs = record { first = key_start key byte_values }
 
 -- a count has room for one more
-pub tallied_room : (key : Circuit → ℕ) (cs : List Circuit) (n m k : ℕ) (counts : List ℕ) → Tallied key cs n counts → n < m → m ≤ circuit_room
-    → k < byte_values → Fits w16 (get_or counts k 0 + 1)
-tallied_room key cs n m k counts h l most q = record { fits = omega (arith, key_low key byte_values (take n cs) counts h.first k q, take_most n cs) }
+pub tallied_room : (key : Circuit → ℕ) (cs : List Circuit) (n k : ℕ) (counts : List ℕ) → Tallied key cs n counts → n < length cs
+    → length cs ≤ circuit_room → k < byte_values → Fits w16 (get_or counts k 0 + 1)
+tallied_room key cs n k counts h l most q = record { fits = omega (arith, key_low key byte_values (take n cs) counts h.first k q, take_most n cs) }
 
 -- its step
 pub tallied_next : (key : Circuit → ℕ) (cs : List Circuit) (n node : ℕ) (counts : List ℕ) → Tallied key cs n counts
@@ -45,28 +45,30 @@ tallied_end key cs i n counts h l k = let e : i ≡ n = omega arith in rw e at h
 
 pub ruleset tallied = (tallied_start, tallied_room, tallied_end)
 
-module _ (ks : List ℕ) (cs : List Circuit) (n : ℕ) (sent received : List ℕ) (s : Tallied (λ c. c.source) cs n sent)
-    (r : Tallied (λ c. c.destination) cs n received) (long : length ks ≡ port_fields) where
+module _ (ks : List ℕ) (cs : List Circuit) (sent received : List ℕ) (s : Tallied (λ c. c.source) cs (length cs) sent)
+    (r : Tallied (λ c. c.destination) cs (length cs) received) (long : length ks ≡ port_fields) where
   -- a node's counts are those of what it sends and receives
-  at_node : (j : ℕ) → j < most_nodes → (get_or sent (j + 1) 0 ≡ sends (1 + j) (take n cs)) × (get_or received (j + 1) 0 ≡ receives (1 + j) (take n cs))
-  at_node j l = let e : 1 + j ≡ j + 1 = omega arith in rw e (s.first.at (j + 1) (omega arith), r.first.at (j + 1) (omega arith))
+  at_node : (j : ℕ) → j < most_nodes → (get_or sent (j + 1) 0 ≡ sends (1 + j) cs) × (get_or received (j + 1) 0 ≡ receives (1 + j) cs)
+  at_node j l =
+      let e : 1 + j ≡ j + 1 = omega arith in
+      rw e ((rw take-length at (s.first.at (j + 1) (omega arith))), (rw take-length at (r.first.at (j + 1) (omega arith))))
 
   -- by them the ports are enough exactly where they hold
-  pub enough_holds : (b : Bool) → b ≡ enough ks sent received → b ≡ ports_hold 1 ks (take n cs)
+  pub enough_holds : (b : Bool) → b ≡ enough ks sent received → b ≡ ports_hold 1 ks cs
   enough_holds b e = e ∙ same_test _ _ holds tests
     where
-      holds : enough ks sent received ≡ true → ports_hold 1 ks (take n cs) ≡ true
+      holds : enough ks sent received ≡ true → ports_hold 1 ks cs ≡ true
       holds e =
-          from_ports 1 ks (take n cs)
+          from_ports 1 ks cs
           (λ j l.
           let b = every_at most_nodes (enough_at ks sent received) e j (omega arith) in
           let k = at_node j (omega arith) in
           rw (← k.0, ← k.1) (leb-true _ _ (search and_left), leb-true _ _ (search and_right)))
 
-      tests : ports_hold 1 ks (take n cs) ≡ true → enough ks sent received ≡ true
+      tests : ports_hold 1 ks cs ≡ true → enough ks sent received ≡ true
       tests e =
           at_every most_nodes (enough_at ks sent received)
           (λ j l.
-          let b = ports_from 1 ks (take n cs) e j (omega arith) in
+          let b = ports_from 1 ks cs e j (omega arith) in
           let k = at_node j l in
           rw (k.0, k.1) (and_both _ _ (le-leb _ _ b.0) (le-leb _ _ b.1)))

@@ -1,18 +1,34 @@
--- The rule that places from the limit up stay unlit: what it says of each place, what keeps it, and the loop that tests it. Assumes nothing.
-use Prim.Native.Nat.{ℕ, ◌+◌, ◌≤◌, ◌<◌}
-use mathlib.Core.Path.{◌≡◌, sym, ap, ◌∙◌}
-use mathlib.Core.Bool.{Bool, true, false, ◌||◌, not}
-use lib.Dec.{ltb}
-use borrow.Author.Tests.{lt-ltb, le-ltb, not-true, not-false}
-use Rattle.basis.proofs.Scan.{Passed, scan_next, scan_all, scan_fail}
+-- The rule that places from the limit up stay unlit: what it says of each place, what keeps it, and the test of each from there. Assumes nothing.
+use Prim.Native.Nat.{ℕ, zero, suc, ◌≤◌, ◌<◌}
+use mathlib.Core.Path.{◌≡◌, refl, sym, ap, ◌∙◌}
+use mathlib.Core.Bool.{Bool, true, ◌&&◌, ◌||◌, not}
+use mathlib.Core.List.{List, [], ◌∷◌}
+use lib.Dec.{ltb, leb-zero, leb-suc-zero, leb-suc-suc}
+use lib.ListN.{length, get_or, drop}
+use Rattle.std.specs.List.{list_all}
+use Rattle.basis.specs.Search.{every_below}
+use Rattle.basis.proofs.Search.{every_same}
 use Rattle.limits.specs.Limits.{place_count}
 use Rattle.slots.specs.Slot.{is_unlit}
 use Rattle.slots.specs.declared.Slot.TheVariants.{Unlit as unlit}
 use Rattle.slots.proofs.Contents.{is_unlit_lem, unlit_not}
 use Rattle.lit_words.specs.Lit.{none_lit_from}
 use Rattle.lit_words.proofs.NoneLit.{none_lit_at, at_none_lit}
-use Rattle.channels.specs.Channels.{Channels, at, lit_at}
+use Rattle.channels.specs.Channels.{Channels, unlit_channel, at, lit_at}
 use Rattle.rules.specs.Rules.{unlit_from}
+
+-- the elements from a position on pass where every position is below it or passes
+from_every : {A : Type 0} (f : A → Bool) (d : A) (m : ℕ) (xs : List A)
+    → list_all f (drop m xs) ≡ every_below (length xs) (λ p. ltb p m || f (get_or xs p d))
+from_every f d zero [] = refl
+from_every f d (suc m) [] = refl
+from_every f d zero (x ∷ xs) = simp leb-suc-zero (simp leb-suc-zero at (ap (λ r. f x && r) (from_every f d zero xs)))
+from_every f d (suc m) (x ∷ xs) = let below : ltb 0 (suc m) ≡ true = leb-suc-suc 0 m ∙ leb-zero m in simp (below, leb-suc-suc) (from_every f d m xs)
+
+-- so many of them
+from_each : {A : Type 0} (f : A → Bool) (d : A) (m : ℕ) (xs : List A) (n : ℕ) → length xs ≡ n
+    → list_all f (drop m xs) ≡ every_below n (λ p. ltb p m || f (get_or xs p d))
+from_each f d m xs n e = rw (← e) (from_every f d m xs)
 
 module _ (m : ℕ) (t : Channels) where
   -- each place from m up is unlit
@@ -27,31 +43,7 @@ module _ (m : ℕ) (t : Channels) where
   pub unlit_still : (t' : Channels) → unlit_from m t ≡ true → ((p : ℕ) → m ≤ p → at t p ≡ unlit → at t' p ≡ unlit) → unlit_from m t' ≡ true
   unlit_still t' h k = at_none_lit m (lit_at t') (λ p l i. rw (k p i (above_unlit h p l i)))
 
-  -- what the loop tests of place p
-  abbrev pub dark : ℕ → Bool
-  dark p = ltb p m || not (lit_at t p)
-
-  -- it begins at m
-  pub unlit_start : Passed dark true m
-  unlit_start = record { before = λ q l. rw (lt-ltb q m l) }
-
-  module _ (i : ℕ) (r : Bool) (l : m ≤ i) (e : r ≡ is_unlit (at t i)) where
-    decides : r ≡ dark i
-    decides = e ∙ sym (unlit_not (at t i)) ∙ rw (le-ltb i m l)
-
-    -- a place more is unlit
-    pub unlit_next : Passed dark true i → not r ≡ false → Passed dark true (i + 1)
-    unlit_next h n = scan_next dark true i r h decides (not-false r n)
-
-    -- or lit
-    pub unlit_fail : not r ≡ true → i < place_count → false ≡ unlit_from m t
-    unfolding none_lit_from
-    unlit_fail n k = scan_fail dark place_count i r decides (not-true r n) k
-
-  -- all are unlit
-  pub unlit_all : (i : ℕ) → Passed dark true i → place_count ≤ i → true ≡ unlit_from m t
+  -- the places from m on are unlit one by one
+  pub unlit_all : length t ≡ place_count → list_all (λ ch. is_unlit ch.slot) (drop m t) ≡ unlit_from m t
   unfolding none_lit_from
-  unlit_all i h l = scan_all dark place_count i h l
-
--- for `search (rules, upper)`
-pub ruleset upper = (unlit_start, unlit_next, unlit_fail, unlit_all)
+  unlit_all e = from_each (λ ch. is_unlit ch.slot) unlit_channel m t place_count e ∙ every_same place_count _ _ (λ p l. ap (λ r. ltb p m || r) (sym (unlit_not (at t p))))

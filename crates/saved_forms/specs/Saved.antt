@@ -1,9 +1,7 @@
 -- Saved forms in lent bytes. Assumes nothing. What `form_of` and `read_word` promise.
-use Rattle.std.specs.Prelude.{ℕ, ◌≤◌, ◌≡◌, true, false, List, length, take}
+use Rattle.std.specs.Prelude.{ℕ, ◌≤◌, ◌≡◌, true, false, List, length, take, Option, Some, None}
 use Rattle.ring.specs.declared.RingTable.{RingTable}
 use Rattle.form.specs.Form.{form_of, longest_form}
-use Rattle.hex_text.specs.declared.Digits.{Digits}
-use Rattle.hex_text.specs.declared.Digits.TheVariants.{Bytes, Bad}
 use Rattle.planner_lines.specs.Line.{is_form, form_bytes}
 
 -- the form of a table stands in the first n of some bytes
@@ -13,6 +11,6 @@ pub record FormIn (t : RingTable) (l : List ℕ) (n : ℕ) : Type 0 where
   pub most : n ≤ longest_form
 
 -- a word was read: it is a form, whose bytes stand in the first of some bytes, or it is none
-abbrev pub WordRead : List ℕ → List ℕ → Digits → Type 0
-WordRead word l (Bytes n) = (n ≤ length l) × (is_form word ≡ true) × (take n l ≡ form_bytes word)
-WordRead word l Bad = is_form word ≡ false
+abbrev pub WordRead : List ℕ → List ℕ → Option ℕ → Type 0
+WordRead word l (Some n) = (n ≤ length l) × (is_form word ≡ true) × (take n l ≡ form_bytes word)
+WordRead word l None = is_form word ≡ false

@@ -13,20 +13,21 @@ use Rattle.buffer.specs.Put.{Printed}
 use Rattle.script.specs.Bytes.{Script, Session, Fed, after, texts, most_held, start_session, script_of, ValidSession, Took, Finished}
 use Rattle.script.proofs.Cuts.{after_more, texts_more}
 use Rattle.desk.specs.Desk.{Desk, desk_of, Keeps, run_line, answer_room, CanRun, HasRun}
-use Rattle.desk.specs.declared.DeskState.{DeskState}
+use Rattle.std.specs.Prelude.{Option}
+use Rattle.roster.specs.declared.Heading.{Heading}
 use Rattle.desk.specs.declared.Ran.{Ran}
 
 -- before the first byte no ring was accepted
 pub start_valid : (s : Session) → s ≡ start_session → ValidSession s
 start_valid s e =
-    rw e (record { held = omega arith; desk = record { held = λ h. let z : ◌≡◌ {A = ℕ} 0 1 = cc in absurd (omega arith); blank = λ h. refl; long_keys = refl; long_rests = refl } })
+    rw e (record { held = omega arith; desk = record { held = λ h e. let z : ◌≡◌ {A = ℕ} 0 1 = cc in absurd (omega arith); blank = λ h. (refl, refl); long_keys = refl; long_rests = refl } })
 
 -- the script of a desk and of the first bytes of a line
 abbrev pub script_at : Desk → List ℕ → ℕ → Script
 script_at d line held = record { desk = d; held = take held line }
 
 -- of the chunk the first i bytes are taken in, and what they print stands in the lent bytes up to position at
-pub record Feeding (s : Script) (chunk l0 keys rests : List ℕ) (d : DeskState) (line : List ℕ) (held : ℕ) (l : List ℕ) (at i : ℕ) : Type 0 where
+pub record Feeding (s : Script) (chunk l0 keys rests : List ℕ) (d : Option Heading) (line : List ℕ) (held : ℕ) (l : List ℕ) (at i : ℕ) : Type 0 where
   pub state : script_at (desk_of d keys rests) line held ≡ after s (take i chunk)
   pub text : Printed (answer_room * i) l0 0 (texts s (take i chunk)) l at
   pub within : i ≤ length chunk
@@ -41,7 +42,7 @@ unfolding after texts
 feed_none s chunk l0 f w h =
     record { state = refl; text = record { put = put_none; short = omega arith }; within = omega arith; width = w; few = f.held; keeps = f.desk; space = h }
 
-module _ (s : Script) (chunk l0 keys rests : List ℕ) (d : DeskState) (line : List ℕ) (held : ℕ) (l : List ℕ) (at i : ℕ)
+module _ (s : Script) (chunk l0 keys rests : List ℕ) (d : Option Heading) (line : List ℕ) (held : ℕ) (l : List ℕ) (at i : ℕ)
     (q : Feeding s chunk l0 keys rests d line held l at i) where
   pub feed_few : held ≤ most_held
   feed_few = q.few

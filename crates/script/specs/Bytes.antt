@@ -1,10 +1,10 @@
 -- A script's bytes as they come: the state between two reads, and what a read does and prints. Assumes nothing.
 -- What `start`, `feed` and `finish` promise.
-use Rattle.std.specs.Prelude.{ℕ, ◌+◌, ◌*◌, ◌≤◌, ◌≡◌, false, List, [], ◌∷◌, ◌++◌, eqb, length, take, replicate}
+use Rattle.std.specs.Prelude.{ℕ, ◌+◌, ◌*◌, ◌≤◌, ◌≡◌, List, [], ◌∷◌, ◌++◌, eqb, length, take, replicate, None}
 use Rattle.basis.specs.Choice.{pick}
 use Rattle.buffer.specs.Put.{Printed}
 use Rattle.requests.specs.Line.{longest_line}
-use Rattle.limits.specs.Limits.{port_fields, most_circuits}
+use Rattle.limits.specs.Limits.{most_circuits}
 use Rattle.desk.specs.Desk.{Desk, desk_of, Keeps, run_line, answer_room}
 pub use Rattle.script.specs.declared.Session.{Session}
 pub use Rattle.script.specs.declared.Fed.{Fed}
@@ -43,7 +43,7 @@ abbrev pub start_session : Session
 start_session = record {
   keys = replicate most_circuits 0;
   rests = replicate most_circuits 0;
-  desk = record { heading = record { ports = replicate port_fields 0; nodes = 0; count = 0 }; ready = false };
+  desk = None;
   line = replicate most_held 0;
   held = 0;
 }

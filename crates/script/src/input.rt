@@ -4,9 +4,7 @@ ghost use Rattle.script.specs.Bytes.{start_session, ValidSession, Took, Finished
 ghost use Rattle.desk.specs.Desk.{answer_room};
 
 use crate::{Fed, MOST_HELD, Session};
-use desk::DeskState;
-use limits::{MOST_CIRCUITS, PORT_FIELDS};
-use roster::Heading;
+use limits::MOST_CIRCUITS;
 
 // Before the first byte: no ring was accepted, and no byte is held.
 pub fn start() -> Session
@@ -15,14 +13,7 @@ pub fn start() -> Session
     Session {
         keys: [0; MOST_CIRCUITS],
         rests: [0; MOST_CIRCUITS],
-        desk: DeskState {
-            heading: Heading {
-                ports: [0; PORT_FIELDS],
-                nodes: 0,
-                count: 0,
-            },
-            ready: false,
-        },
+        desk: None,
         line: [0; MOST_HELD],
         held: 0,
     }
@@ -33,27 +24,24 @@ pub fn feed(session: Session, chunk: &[u8], out: &mut [u8]) -> Fed
     requires { ValidSession session × (answer_room * length chunk.now ≤ length out.old) }
     ensures { Took session chunk.now out.old out.new result }
 {
-    let mut keys = session.keys;
-    let mut rests = session.rests;
-    let mut desk = session.desk;
-    let mut line = session.line;
-    let mut held = session.held;
-    let mut at: usize = 0;
-    let mut i: usize = 0;
-    while i < chunk.len() {
-        let byte = chunk[i];
-        i += 1;
-        if byte == b'\n' {
+    let Session {
+        mut keys,
+        mut rests,
+        mut desk,
+        mut line,
+        mut held,
+    } = session;
+    let mut at = 0;
+    for byte in chunk {
+        let fits = held < MOST_HELD;
+        if *byte == b'\n' {
             let ran = desk::run_line(desk, &mut keys, &mut rests, &line[..held], out, at);
             desk = ran.desk;
             at = ran.next;
             held = 0;
-            continue;
-        }
-        if held < MOST_HELD {
-            line[held] = byte;
+        } else if fits {
+            line[held] = *byte;
             held += 1;
-            continue;
         }
     }
     Fed {
@@ -76,6 +64,5 @@ pub fn finish(session: Session, out: &mut [u8]) -> usize
     if session.held == 0 {
         return 0;
     }
-    let fed = feed(session, b"\n", out);
-    fed.wrote
+    feed(session, b"\n", out).wrote
 }

@@ -4,20 +4,20 @@
 
 mod input;
 
-use desk::DeskState;
 pub use input::{feed, finish, start};
 use limits::MOST_CIRCUITS;
 use requests::LONGEST_LINE;
+use roster::Heading;
 
 // The most bytes of a line that are held: enough to see that a line is too long.
 const MOST_HELD: usize = LONGEST_LINE + 1;
 
-// The desk with the keys and rests of its circuits, and the bytes of a line that has not ended.
+// The desk, which is none before the first accepted ring, with the keys and rests of its circuits, and the bytes of a line that has not ended.
 #[derive(Clone, Copy)]
 pub struct Session {
     pub keys: [u64; MOST_CIRCUITS],
     pub rests: [u64; MOST_CIRCUITS],
-    pub desk: DeskState,
+    pub desk: Option<Heading>,
     pub line: [u8; MOST_HELD],
     pub held: usize,
 }

@@ -94,12 +94,3 @@ named_weighs w n s h =
       p.weighs (keyed (λ c. c.number) n w),
       keyed_none (λ c. c.number) n w (held (without n s)) (omega (arith, p.weighs (of_number n), bit_eq (named n s).number n p.number)),
     )
-
--- What is asked of a place whose content was found, by that content: for `search`, which takes it as the match found it.
-pub holds_as : (n : ℕ) (s k : Slot) (r : Bool) → s ≡ k → r ≡ holds n k → r ≡ holds n s
-holds_as n s k r e h = rw e h
-
-pub without_as : (n : ℕ) (s k r : Slot) → s ≡ k → r ≡ without n k → r ≡ without n s
-without_as n s k r e h = rw e h
-
-pub ruleset found = (holds_as, without_as)

@@ -8,7 +8,7 @@ ghost use Rattle.slots.specs.Slot.{is_lit, is_unlit, is_alone, first_of, togethe
 use lightpath::{BLANK_CIRCUIT, Circuit};
 
 // The content of a place: unlit, one circuit alone, or two that share it, the lower number first.
-#[derive(Clone, Copy)]
+#[derive(Clone, Copy, Debug, PartialEq, Eq)]
 pub enum Slot {
     Unlit,
     Alone(Circuit),
@@ -20,33 +20,21 @@ impl Slot {
     pub fn is_lit(self) -> bool
         ensures { result ≡ is_lit self }
     {
-        match self {
-            Slot::Unlit => false,
-            Slot::Alone(_) => true,
-            Slot::Shared(_, _) => true,
-        }
+        !matches!(self, Slot::Unlit)
     }
 
     // Whether no circuit is there.
     pub fn is_unlit(self) -> bool
         ensures { result ≡ is_unlit self }
     {
-        match self {
-            Slot::Unlit => true,
-            Slot::Alone(_) => false,
-            Slot::Shared(_, _) => false,
-        }
+        matches!(self, Slot::Unlit)
     }
 
     // Whether one circuit is there, nonsharing.
     pub fn is_alone(self) -> bool
         ensures { result ≡ is_alone self }
     {
-        match self {
-            Slot::Unlit => false,
-            Slot::Alone(_) => true,
-            Slot::Shared(_, _) => false,
-        }
+        matches!(self, Slot::Alone(_))
     }
 
     // The first circuit there, or a blank one.
@@ -55,8 +43,7 @@ impl Slot {
     {
         match self {
             Slot::Unlit => BLANK_CIRCUIT,
-            Slot::Alone(a) => a,
-            Slot::Shared(a, _) => a,
+            Slot::Alone(a) | Slot::Shared(a, _) => a,
         }
     }
 
@@ -87,15 +74,9 @@ impl Slot {
         ensures { result ≡ without number self }
     {
         match self {
-            Slot::Unlit => Slot::Unlit,
-            Slot::Alone(_) => Slot::Unlit,
-            Slot::Shared(a, b) => {
-                if a.number == number {
-                    Slot::Alone(b)
-                } else {
-                    Slot::Alone(a)
-                }
-            }
+            Slot::Unlit | Slot::Alone(_) => Slot::Unlit,
+            Slot::Shared(a, b) if a.number == number => Slot::Alone(b),
+            Slot::Shared(a, _) => Slot::Alone(a),
         }
     }
 }

@@ -1,30 +1,26 @@
 -- The pass over the places: what it has seen from a place on, and what steps 1 and 2 take from it. Assumes nothing.
 use Prim.Native.Nat.{ℕ, suc, ◌+◌, ◌-◌, ◌≤◌, ◌<◌}
 use mathlib.Core.Path.{◌≡◌, refl, sym, ◌∙◌}
-use mathlib.Core.Bool.{Bool, true, false, ◌&&◌, not}
+use mathlib.Core.Bool.{Bool, true, false, ◌&&◌}
 use mathlib.Core.List.{[]}
 use native.Mathlib.Decide.{dec_lt}
 use native.Mathlib.Omega.{arith}
 use lib.Dec.{eqb, ltb}
 use lib.ListN.{length, drop, drop_of_length-le}
-use borrow.Author.Tests.{not-true, not-false, lt-ltb, le-ltb}
+use borrow.Author.Tests.{lt-ltb, le-ltb}
 use Rattle.basis.specs.Choice.{pick, bit}
 use Rattle.basis.specs.Count.{tally}
 use Rattle.basis.proofs.Arrays.{array_length}
 use Rattle.basis.proofs.Weigh.{bit_most}
 use Rattle.basis.proofs.Descent.{Lowest, lowest_start, lowest_next, lowest_end}
 use Rattle.limits.specs.Limits.{place_count}
-use Rattle.lightpath.specs.Place.{direction_of, other_way}
-use Rattle.lightpath.specs.Circuit.{blank_circuit, shorter_way, can_share}
+use Rattle.lightpath.specs.Place.{other_way}
+use Rattle.lightpath.specs.Circuit.{blank_circuit, shorter_way}
 use Rattle.lightpath.specs.declared.Direction.{Direction}
 use Rattle.lightpath.specs.declared.Circuit.{Circuit}
-use Rattle.slots.specs.Slot.{held, is_unlit, is_lit, is_alone, first_of}
-use Rattle.slots.specs.declared.Slot.{Slot}
-use Rattle.slots.specs.declared.Slot.TheVariants.{Unlit as unlit}
-use Rattle.slots.proofs.Contents.{is_unlit_lem, unlit_not}
+use Rattle.slots.specs.Slot.{held, first_of}
 use Rattle.lit_words.specs.Unlit.{unlit_in}
 use Rattle.lit_words.specs.With.{with_place}
-use Rattle.lit_words.specs.declared.Lit.{Lit}
 use Rattle.lit_words.proofs.Built.{Built, built_start, built_room, built_skip, built_next, built_end}
 use Rattle.channels.specs.Channels.{Channels, at, circuits, numbered, lit_at}
 use Rattle.channels.specs.Nonsharing.{standing_at}
@@ -61,43 +57,6 @@ module _ (N m : ℕ) (t : Channels) (c : Circuit) where
     pub destinations : v.received ≡ receives c.destination (circuits (drop p t))
     pub lowest : Lowest (λ q. can_join N c q (at t q)) m (lower p m) v.join
     pub words : Built (lit_at t) p v.lit
-
--- whether a place is below the limit and the new circuit can join what it holds, by the tests that the code makes
-module _ (N m : ℕ) (c : Circuit) (p : ℕ) (s : Slot) where
-  abbrev joined : Bool
-  joined = ltb p m && can_join N c p s
-
-  pub join_none : (r : Bool) → r ≡ is_alone s → not r ≡ true → false ≡ joined
-  join_none r e h = rw (← e, not-true r h) (never (ltb p m))
-    where
-      never : (b : Bool) → false ≡ (b && false)
-      never true = refl
-      never false = refl
-
-  pub join_above : m ≤ p → false ≡ joined
-  join_above l = rw (le-ltb p m l)
-
-  pub join_alone : (r : Bool) (d : Direction) (f : Circuit) (a : Bool) → r ≡ is_alone s → not r ≡ false → p < m → d ≡ direction_of p → f ≡ first_of s
-      → a ≡ can_share N d f c → a ≡ joined
-  join_alone r d f a e h l g k q = rw (lt-ltb p m l, ← e, not-false r h, ← g, ← k) q
-
-  -- an unlit place changes nothing
-  pub seen_dark : (v : Pass) (r : Bool) → r ≡ is_unlit s → r ≡ true → v ≡ pass_with N m c p s v
-  seen_dark v r e h = rw (is_unlit_lem s (sym e ∙ h)) (fields v (pass_with N m c p unlit v) (omega arith) (omega arith) (omega arith) (dark (ltb p m)) refl)
-    where
-      dark : (b : Bool) → v.join ≡ pick (b && false) p v.join
-      dark true = refl
-      dark false = refl
-
-  -- another is counted
-  pub seen_lit : (v : Pass) (r a : Bool) (k l n j : ℕ) (w : Lit) → r ≡ is_unlit s → r ≡ false → k ≡ numbered c.number (held s)
-      → l ≡ sends c.source (held s) → n ≡ receives c.destination (held s)
-      → a ≡ joined → j ≡ pick a p v.join → w ≡ with_place v.lit p
-      → record { numbered = v.numbered + k; sent = v.sent + l; received = v.received + n; join = j; lit = w } ≡ pass_with N m c p s v
-  seen_lit v r a k l n j w e h x y z b f g = rw (not-false (is_lit s) (unlit_not s ∙ sym e ∙ h), x, y, z, f, b, g)
-
--- for `search (rules, place)`
-pub ruleset place = (join_none, join_above, join_alone, seen_dark, seen_lit)
 
 module _ (N m : ℕ) (t : Channels) (c : Circuit) (long : length t ≡ place_count) (low : m ≤ place_count) where
   -- nothing seen
@@ -178,8 +137,8 @@ module _ (N m : ℕ) (t : Channels) (c : Circuit) (long : length t ≡ place_cou
     pub seen_joined : (x : Circuit) → v.join < m → x ≡ first_of (at t v.join) → made x ≡ survey_of N m t c
     seen_joined x l e = is x (rw (lt-ltb v.join m l, e))
 
-    pub seen_none : m ≤ v.join → made blank_circuit ≡ survey_of N m t c
-    seen_none l = is blank_circuit (rw (le-ltb v.join m l) (let e : v.join ≡ m = omega (arith, s.lowest.most) in rw e))
+    pub seen_none : (x : Circuit) → m ≤ v.join → x ≡ blank_circuit → made x ≡ survey_of N m t c
+    seen_none x l e = is x (rw (le-ltb v.join m l, e) (let e : v.join ≡ m = omega (arith, s.lowest.most) in rw e))
 
 -- for `search (rules, seen)`
 pub ruleset seen = (array_length, seen_start, seen_room, seen_next, seen_joined, seen_none)

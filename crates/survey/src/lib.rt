@@ -4,7 +4,6 @@
 #![tactic(auto)]
 
 ghost use Rattle.std.specs.Prelude.{◌≡◌, ◌&&◌, ◌<◌, ◌≤◌, ltb};
-ghost use Rattle.basis.specs.Choice.{pick};
 ghost use Rattle.limits.specs.Limits.{place_count};
 ghost use Rattle.steps.specs.Steps.{can_join};
 ghost use Rattle.survey.specs.Survey.{survey_of, unlit_seen, pass_with, Takes};
@@ -31,15 +30,12 @@ fn can_join(nodes: u8, limit: usize, circuit: Circuit, place: usize, slot: Slot)
     requires { (0 < nodes) × (place < place_count) }
     ensures { result ≡ (ltb place limit && can_join nodes circuit place slot) }
 {
-    if !slot.is_alone() {
-        return false;
+    match slot {
+        Slot::Alone(alone) => {
+            place < limit && alone.can_share(circuit, nodes, Place(place as u8).direction())
+        }
+        Slot::Unlit | Slot::Shared(_, _) => false,
     }
-    if limit <= place {
-        return false;
-    }
-    let number = place as u8;
-    let direction = Place(number).direction();
-    slot.first().can_share(circuit, nodes, direction)
 }
 
 // What was seen of the places above one: the counts, the place of the lowest circuit that the new one can join, or the limit, and the
@@ -62,30 +58,18 @@ impl Pass {
         if slot.is_unlit() {
             return self;
         }
-        let numbered = self.numbered + ports_used::numbered_at(slot, circuit.number);
-        let sent = self.sent + ports_used::sent_at(slot, circuit.source);
-        let received = self.received + ports_used::received_at(slot, circuit.destination);
-        let join = lower(
-            can_join(nodes, limit, circuit, place, slot),
-            place,
-            self.join,
-        );
-        let lit = self.lit.with(place);
         Pass {
-            numbered,
-            sent,
-            received,
-            join,
-            lit,
+            numbered: self.numbered + ports_used::numbered_at(slot, circuit.number),
+            sent: self.sent + ports_used::sent_at(slot, circuit.source),
+            received: self.received + ports_used::received_at(slot, circuit.destination),
+            join: if can_join(nodes, limit, circuit, place, slot) {
+                place
+            } else {
+                self.join
+            },
+            lit: self.lit.with(place),
         }
     }
-}
-
-// The one place where a test passes, else the other.
-fn lower(test: bool, place: usize, above: usize) -> usize
-    ensures { result ≡ pick test place above }
-{
-    if test { place } else { above }
 }
 
 impl Survey {
@@ -120,29 +104,22 @@ pub fn survey_places(
         join: limit,
         lit: Lit { low: 0, high: 0 },
     };
-    let mut place: usize = PLACE_COUNT;
-    while 0 < place {
-        place -= 1;
-        let channel = channels[place];
-        let slot = channel.slot;
-        seen = seen.with_place(nodes, limit, circuit, place, slot);
+    for place in (0..PLACE_COUNT).rev() {
+        seen = seen.with_place(nodes, limit, circuit, place, channels[place].slot);
     }
-    let join = seen.join;
-    let lit = seen.lit;
-    let mut partner = BLANK_CIRCUIT;
-    if join < limit {
-        let channel = channels[join];
-        let slot = channel.slot;
-        partner = slot.first();
-    }
+    let partner = if seen.join < limit {
+        channels[seen.join].slot.first()
+    } else {
+        BLANK_CIRCUIT
+    };
     Survey {
         numbered: seen.numbered,
         sent: seen.sent,
         received: seen.received,
         join: Standing {
-            place: join,
+            place: seen.join,
             circuit: partner,
         },
-        lit,
+        lit: seen.lit,
     }
 }

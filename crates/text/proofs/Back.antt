@@ -8,7 +8,7 @@ use native.Mathlib.Nat.{zero-add, pow-suc}
 use lib.Dec.{ltb}
 use lib.ListN.{length, length-append}
 use borrow.Author.Tests.{lt-ltb, le-leb, ltb-false, ltb-true}
-use Rattle.text.specs.declared.Number.TheVariants.{Got}
+use Rattle.std.specs.Prelude.{Some}
 use Rattle.text.specs.Decimal.{decimal}
 use Rattle.text.specs.Number.{is_digit, number_after, number}
 use Rattle.text.proofs.Decimal.{decimal_small, decimal_large}
@@ -45,7 +45,7 @@ read_back limit =
     rw (decimal_large n h, append_assoc) (ih ((48 + n % 10) ∷ s) ∙ one_more limit (n / 10) (n % 10) s (omega arith) ∙ rw e))
 
 -- Law: a number below the limit, printed and read, is the number
-pub there_and_back_lem : (limit n : ℕ) → n < limit → number limit (decimal n) ≡ Got n
+pub there_and_back_lem : (limit n : ℕ) → n < limit → number limit (decimal n) ≡ Some n
 unfolding number_after
 there_and_back_lem limit n h = rw (← append-nil (decimal n)) (read_back limit n [] ∙ rw (lt-ltb n limit h))
 

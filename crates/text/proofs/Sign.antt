@@ -1,41 +1,38 @@
 -- Reading a signed number: the word by its first byte, and the number that the machine makes of the digits. Assumes nothing.
+use mathlib.Core.Bool.{Bool, true, false}
 use mathlib.Core.Path.{◌≡◌, refl, sym, ap, ◌∙◌}
 use mathlib.Core.List.{List, [], ◌∷◌}
-use Prim.Native.Nat.{ℕ, ◌+◌, ◌-◌, ◌^◌, ◌≤◌}
+use Prim.Native.Nat.{ℕ, ◌+◌, ◌^◌, ◌≤◌}
 use native.Mathlib.Omega.{arith}
 use lib.IntN.{ℤ, pos, ◌-ℤ◌, +ℤ_idl}
-use lib.ListN.{length, take, drop, get_or}
-use lib.Seq.{take_all}
+use lib.Dec.{eqb}
+use lib.ListN.{take, drop}
+use lib.Pointwise.{pointwise}
 use lib.Signed.{mag}
 use mir.Syntax.{w32, w64}
 use mir.Val.{SFits, to_z, of_z}
 use mir.ValLaws.{to_z_pos, to_z-of_z}
-use borrow.Author.Tests.{eq-eqb, ne_eqb}
+use Rattle.basis.proofs.Bools.{and_left}
 use Rattle.basis.proofs.Integers.{mag_below}
-use Rattle.text.specs.declared.Number.{Number}
-use Rattle.text.specs.declared.Number.TheVariants.{Got as got_number, Missing as no_number}
-use Rattle.text.specs.declared.Signed.TheVariants.{Got, Missing}
+use Rattle.std.specs.Prelude.{Option, Some, None}
 use Rattle.text.specs.Number.{number}
 use Rattle.text.specs.Signed.{below, with_sign, signed}
 use Rattle.text.proofs.Reading.{number_small}
 
--- the empty word is none
-pub no_sign : (word : List ℕ) → length word ≡ 0 → Missing ≡ signed word
+-- a word by its first byte
+after_minus : (word : List ℕ) → pointwise eqb (take 1 word) (45 ∷ []) ≡ true → signed word ≡ with_sign below (number (2 ^ 31 + 1) (drop 1 word))
 unfolding signed
-no_sign [] h = refl
-no_sign (x ∷ s) h = absurd (omega arith)
+after_minus [] e = cc
+after_minus (x ∷ s) e = rw (and_left (eqb x 45) true e)
 
--- any other by its first byte
-after_minus : (word : List ℕ) → (length word ≡ 0 → ⊥) → get_or word 0 0 ≡ 45
-    → signed word ≡ with_sign below (number (2 ^ 31 + 1) (take (length word - 1) (drop 1 word)))
-unfolding signed
-after_minus [] h e = absurd (h refl)
-after_minus (x ∷ s) h e = rw (eq-eqb x 45 e, take_all (length (x ∷ s) - 1) s (omega arith))
-
-no_minus : (word : List ℕ) → (length word ≡ 0 → ⊥) → (get_or word 0 0 ≡ 45 → ⊥) → signed word ≡ with_sign pos (number (2 ^ 31) word)
-unfolding signed
-no_minus [] h e = absurd (h refl)
-no_minus (x ∷ s) h e = rw (ne_eqb x 45 e)
+no_minus : (word : List ℕ) → pointwise eqb (take 1 word) (45 ∷ []) ≡ false → signed word ≡ with_sign pos (number (2 ^ 31) word)
+unfolding signed number
+no_minus [] e = refl
+no_minus (x ∷ s) e = go (eqb x 45) refl
+  where
+    go : (t : Bool) → eqb x 45 ≡ t → signed (x ∷ s) ≡ with_sign pos (number (2 ^ 31) (x ∷ s))
+    go true k = absurd (cc)
+    go false k = rw k
 
 -- what the machine negates at 64 bits
 abbrev negated : ℕ → ℤ
@@ -59,9 +56,9 @@ module _ (n : ℕ) (h : n ≤ 2 ^ 31) where
   narrow_fits = rw negated_read (record { sfits = omega (arith, small) })
 
 -- a number that was read after `-`
-module _ (s : List ℕ) (r : Number) (k : r ≡ number (2 ^ 31 + 1) s) (n : ℕ) (g : r ≡ got_number n) where
+module _ (s : List ℕ) (n : ℕ) (g : Some n ≡ number (2 ^ 31 + 1) s) where
   below_small : n ≤ 2 ^ 31
-  below_small = omega (arith, number_small (2 ^ 31 + 1) s n (sym k ∙ g))
+  below_small = omega (arith, number_small (2 ^ 31 + 1) s n (sym g))
 
   pub below_wide : SFits w64 (pos n)
   below_wide = record { sfits = omega (arith, below_small) }
@@ -73,25 +70,23 @@ module _ (s : List ℕ) (r : Number) (k : r ≡ number (2 ^ 31 + 1) s) (n : ℕ)
   below_narrow = narrow_fits n below_small
 
 -- and one with no `-` before it
-pub above_narrow : (s : List ℕ) (r : Number) → r ≡ number (2 ^ 31) s → (n : ℕ) → r ≡ got_number n → SFits w32 (pos n)
-above_narrow s r k n g = record { sfits = number_small (2 ^ 31) s n (sym k ∙ g) }
+pub above_narrow : (s : List ℕ) (n : ℕ) → Some n ≡ number (2 ^ 31) s → SFits w32 (pos n)
+above_narrow s n g = record { sfits = number_small (2 ^ 31) s n (sym g) }
 
 -- what the word is then
-module _ (word : List ℕ) (h : length word ≡ 0 → ⊥) (r : Number) where
-  module _ (e : get_or word 0 0 ≡ 45) (k : r ≡ number (2 ^ 31 + 1) (take (length word - 1) (drop 1 word))) where
-    pub below_missing : r ≡ no_number → Missing ≡ signed word
-    below_missing g = sym (after_minus word h e ∙ rw (← k, g))
+module _ (word : List ℕ) where
+  module _ (e : pointwise eqb (take 1 word) (45 ∷ []) ≡ true) (digits : List ℕ) (d : digits ≡ drop 1 word) where
+    pub below_none : (x : Option ℤ) → x ≡ None → None ≡ number (2 ^ 31 + 1) digits → x ≡ signed word
+    below_none x k g = k ∙ sym (after_minus word e ∙ rw (← d, ← g))
 
-    pub below_got : (n : ℕ) → r ≡ got_number n → Got (to_z w32 (of_z w32 (to_z w64 (of_z w64 (negated n))))) ≡ signed word
-    below_got n g =
-        let m : n ≤ 2 ^ 31 = below_small _ r k n g in
-        ap Got (to_z-of_z w32 _ (narrow_fits n m) ∙ negated_read n m) ∙ sym (after_minus word h e ∙ rw (← k, g))
+    pub below_some : (n : ℕ) → Some n ≡ number (2 ^ 31 + 1) digits → Some (to_z w32 (of_z w32 (to_z w64 (of_z w64 (negated n))))) ≡ signed word
+    below_some n g =
+        let m : n ≤ 2 ^ 31 = below_small digits n g in
+        ap Some (to_z-of_z w32 _ (narrow_fits n m) ∙ negated_read n m) ∙ sym (after_minus word e ∙ rw (← d, ← g))
 
-  module _ (e : get_or word 0 0 ≡ 45 → ⊥) (k : r ≡ number (2 ^ 31) word) where
-    pub above_missing : r ≡ no_number → Missing ≡ signed word
-    above_missing g = sym (no_minus word h e ∙ rw (← k, g))
+  module _ (e : pointwise eqb (take 1 word) (45 ∷ []) ≡ false) where
+    pub above_none : (x : Option ℤ) → x ≡ None → None ≡ number (2 ^ 31) word → x ≡ signed word
+    above_none x k g = k ∙ sym (no_minus word e ∙ rw (← g))
 
-    pub above_got : (n : ℕ) → r ≡ got_number n → Got (to_z w32 n) ≡ signed word
-    above_got n g = ap Got (to_z_pos w32 n (above_narrow word r k n g).sfits) ∙ sym (no_minus word h e ∙ rw (← k, g))
-
-pub ruleset signs = (no_sign, below_wide, below_negated, below_narrow, above_narrow, below_missing, below_got, above_missing, above_got)
+    pub above_some : (n : ℕ) → Some n ≡ number (2 ^ 31) word → Some (to_z w32 n) ≡ signed word
+    above_some n g = ap Some (to_z_pos w32 n (above_narrow word n g).sfits) ∙ sym (no_minus word e ∙ rw (← g))

@@ -10,7 +10,7 @@ ghost use Rattle.print.specs.Answers.{move_lines};
 ghost use Rattle.tidy_lines.specs.Lines.{tidy_line, tidy_line_room, moves_room, tidy_room};
 
 use moves::MoveList;
-use ring::Tidying;
+use ring::{TidyCounts, Tidying};
 
 // `tidy rounds R moves M`, or `tidy refused R`.
 fn put_tidy_line(out: &mut [u8], at: usize, answer: Tidying) -> usize
@@ -18,7 +18,7 @@ fn put_tidy_line(out: &mut [u8], at: usize, answer: Tidying) -> usize
     ensures { Printed tidy_line_room out.old at (tidy_line answer) out.new result }
 {
     match answer {
-        Tidying::Done { rounds, moves } => print::put_filled(
+        Ok(TidyCounts { rounds, moves }) => print::put_filled(
             out,
             at,
             b"tidy rounds # moves #\n",
@@ -27,7 +27,7 @@ fn put_tidy_line(out: &mut [u8], at: usize, answer: Tidying) -> usize
             0,
             0,
         ),
-        Tidying::Refused(refusal) => print::put_refusal(out, at, b"tidy refused #\n", refusal),
+        Err(refusal) => print::put_refusal(out, at, b"tidy refused #\n", refusal),
     }
 }
 
@@ -36,13 +36,10 @@ fn put_moves(out: &mut [u8], at: usize, moves: MoveList) -> usize
     requires { (at + moves_room ≤ length out.old) × (moves.count ≤ tidy_records) }
     ensures { Printed moves_room out.old at (move_lines (recorded moves)) out.new result }
 {
-    let count = moves.count;
-    let list = moves.list;
+    let records = &moves.list[..moves.count];
     let mut next = at;
-    let mut i: usize = 0;
-    while i < count {
-        next = print::put_move(out, next, list[i]);
-        i += 1;
+    for record in records {
+        next = print::put_move(out, next, *record);
     }
     next
 }

@@ -1,12 +1,8 @@
 -- What a line leads to, word by word: which word of a list its first is, and the numbers that the others are. A line whose words do not fit
 -- leads to `other`. Assumes nothing. What the promises of `requests` and `commands` are written in.
-use Rattle.std.specs.Prelude.{ℕ, ◌^◌, List, [], ◌∷◌, ℤ}
+use Rattle.std.specs.Prelude.{ℕ, ◌^◌, List, [], ◌∷◌, ℤ, Option, Some, None}
 use Prim.Native.String.{String}
 use Rattle.basis.specs.Choice.{pick}
-use Rattle.text.specs.declared.Number.{Number}
-use Rattle.text.specs.declared.Number.TheVariants.{Got, Missing}
-use Rattle.text.specs.declared.Signed.{Signed}
-use Rattle.text.specs.declared.Signed.TheVariants.{Got as got_signed, Missing as no_signed}
 use Rattle.text.specs.Bytes.{bytes}
 use Rattle.text.specs.Number.{number}
 use Rattle.text.specs.Signed.{signed}
@@ -18,9 +14,9 @@ by_word other w [] = other
 by_word other w (k ∷ ks) = pick (same_text w (bytes k.0)) k.1 (by_word other w ks)
 
 -- what follows from the number that a word is
-abbrev pub given : {A : Type 0} → A → Number → (ℕ → A) → A
-given other (Got n) f = f n
-given other Missing f = other
+abbrev pub given : {A : Type 0} → A → Option ℕ → (ℕ → A) → A
+given other (Some n) f = f n
+given other None f = other
 
 -- what follows from the first word, as a number of so many bits, and the words after it; "a number too wide for its field" is none
 unfoldable pub field : {A : Type 0} → A → ℕ → List (List ℕ) → (ℕ → List (List ℕ) → A) → A
@@ -28,9 +24,9 @@ field other bits [] f = other
 field other bits (w ∷ ws) f = given other (number (2 ^ bits) w) (λ n. f n ws)
 
 -- what follows from the signed number that a word is
-abbrev pub given_signed : {A : Type 0} → A → Signed → (ℤ → A) → A
-given_signed other (got_signed z) f = f z
-given_signed other no_signed f = other
+abbrev pub given_signed : {A : Type 0} → A → Option ℤ → (ℤ → A) → A
+given_signed other (Some z) f = f z
+given_signed other None f = other
 
 -- what follows from the first word, as a signed number of 32 bits, and the words after it
 unfoldable pub signed_field : {A : Type 0} → A → List (List ℕ) → (ℤ → List (List ℕ) → A) → A

@@ -1,5 +1,5 @@
 -- The words of a line, and whether two texts are the same. Assumes nothing.
--- What `word_end`, `same_text` and `word_index` promise, and what a line of a script is read by.
+-- What `word_end` promises, and what a line of a script is read by.
 use Rattle.std.specs.Prelude.{ℕ, Bool, true, false, ◌&&◌, List, [], ◌∷◌, ◌++◌, eqb}
 use Rattle.basis.specs.Choice.{pick}
 use Rattle.basis.specs.Search.{first_place}
@@ -28,7 +28,3 @@ same_text [] [] = true
 same_text [] (y ∷ t) = false
 same_text (x ∷ s) [] = false
 same_text (x ∷ s) (y ∷ t) = eqb x y && same_text s t
-
--- the position of a word among the words of a text; their number where it is none of them
-abbrev pub word_index : List ℕ → List ℕ → ℕ
-word_index w s = first_place (same_text w) (words s)

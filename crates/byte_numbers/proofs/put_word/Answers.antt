@@ -1,14 +1,9 @@
--- `byte_numbers::put_word` meets its contract: the bytes of the word from this one on, which are those of `rest`, are still to be written. Assumes nothing.
-use Prim.Native.Nat.{◌-◌}
-use borrow.Author.Rules.{rules}
-use Rattle.byte_numbers.proofs.WordsWritten.{wording}
+-- `byte_numbers::put_word` meets its contract. Assumes nothing.
+use Rattle.byte_numbers.proofs.WordsWritten.{word_room, word_put}
 use Rattle.byte_numbers.proofs.put_word.Goals as goal
 
-pub put_byte-at-requires : goal.put_byte-at-requires
-put_byte-at-requires c = search (rules, wording)
-
-pub loop-byte-preserved : goal.loop-byte-preserved
-loop-byte-preserved c = search (rules, wording)
+pub put_text-requires : goal.put_text-requires
+put_text-requires c = word_room c.args.word _ c.to_le_bytes.ensures _ _ c.requires
 
 pub returns : goal.returns
-returns c = search (rules, wording)
+returns c = word_put c.args.word _ c.to_le_bytes.ensures _ _ _ _ c.put_text.ensures

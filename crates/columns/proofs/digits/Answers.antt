@@ -1,10 +1,8 @@
--- `columns::digits` meets its contract: the digits but for those of the rest are counted. Assumes nothing.
-use borrow.Author.Rules.{rules}
-use Rattle.columns.proofs.DigitCount.{counting}
+-- `columns::digits` meets its contract. Assumes nothing.
+use Rattle.columns.proofs.DigitCount.{digits_counted, few_digits}
 use Rattle.columns.proofs.digits.Goals as goal
 
-pub loop-rest-preserved : goal.loop-rest-preserved
-loop-rest-preserved c = search (rules, counting)
-
 pub returns : goal.returns
-returns c = search (rules, counting)
+returns c =
+    let of = c.checked_ilog10.ensures in
+    (digits_counted _ _ of.none of.power_le of.next_power_gt _ c.unwrap_or.ensures, few_digits _ of.bound _ c.unwrap_or.ensures)

@@ -3,5 +3,5 @@ use borrow.Author.Rules.{rules}
 use Rattle.buffer.proofs.Appending.{appending}
 use Rattle.columns.proofs.put_cell.Goals as goal
 
-pub returns : goal.returns
-returns c = search (rules, appending)
+pub returns-in-Err : goal.returns-in-Err
+returns-in-Err c = search (rules, appending)

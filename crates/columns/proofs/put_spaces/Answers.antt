@@ -1,7 +1,6 @@
--- `columns::put_spaces` meets its contract: i spaces are put. Assumes nothing.
-use borrow.Author.Rules.{rules}
-use Rattle.buffer.proofs.Appending.{appending}
+-- `columns::put_spaces` meets its contract. Assumes nothing.
+use Rattle.columns.proofs.Spaces.{part_put}
 use Rattle.columns.proofs.put_spaces.Goals as goal
 
-pub loop-i-preserved : goal.loop-i-preserved
-loop-i-preserved c = search (rules, appending)
+pub returns : goal.returns
+returns c = part_put _ _ _ _ c.requires c.fill.ensures.len

@@ -4,18 +4,18 @@ use Rattle.commands.specs.Command.{link_command}
 use Rattle.words.proofs.Parse.{parsing}
 use Rattle.commands.proofs.parse_link.Goals as goal
 
-pub returns-in_default : goal.returns-in_default
+pub returns-in_err-link : goal.returns-in_err-link
 unfolding link_command
-returns-in_default c = search (rules, parsing)
+returns-in_err-link c = search (rules, parsing)
 
-pub returns-in_default-read_field : goal.returns-in_default-read_field
+pub returns-in_err-wavelength : goal.returns-in_err-wavelength
 unfolding link_command
-returns-in_default-read_field c = search (rules, parsing)
+returns-in_err-wavelength c = search (rules, parsing)
 
-pub returns-in_default-read_field-2 : goal.returns-in_default-read_field-2
+pub returns-in_err-direction : goal.returns-in_err-direction
 unfolding link_command
-returns-in_default-read_field-2 c = search (rules, parsing)
+returns-in_err-direction c = search (rules, parsing)
 
 pub returns : goal.returns
 unfolding link_command
-returns c = search (rules, parsing)
+returns c = search (rules, parsing, c.in_ok-link.ensures, c.in_ok-wavelength.ensures, c.in_ok-direction.ensures) depth 7

@@ -1,14 +1,18 @@
 -- `commands::parse_node` meets its contract. Assumes nothing.
 use borrow.Author.Rules.{rules}
-use Rattle.words.proofs.Parse.{parsing}
 use Rattle.commands.specs.Command.{node_command}
-use Rattle.commands.proofs.Fields.{end_given}
+use Rattle.words.proofs.Parse.{parsing}
+use Rattle.commands.proofs.Asked.{asked}
 use Rattle.commands.proofs.parse_node.Goals as goal
 
-pub returns-in_default : goal.returns-in_default
+pub returns-in_err-node : goal.returns-in_err-node
 unfolding node_command
-returns-in_default c = search (rules, parsing)
+returns-in_err-node c = λ asking. search (rules, parsing, asked)
+
+pub returns-then-at-line : goal.returns-then-at-line
+unfolding node_command
+returns-then-at-line c = λ asking. search (rules, parsing, asked)
 
 pub returns : goal.returns
 unfolding node_command
-returns c = search (rules, parsing, end_given)
+returns c = λ asking. search (rules, parsing, asked)

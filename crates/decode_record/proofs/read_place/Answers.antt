@@ -6,5 +6,5 @@ use Rattle.decode_record.proofs.read_place.Goals as goal
 pub returns-then-lit : goal.returns-then-lit
 returns-then-lit c = search (rules, place_rules)
 
-pub returns : goal.returns
-returns c = search (rules, place_rules)
+pub returns-else-lit : goal.returns-else-lit
+returns-else-lit c = search (rules, place_rules)

@@ -1,14 +1,13 @@
 -- `desk::run_open` meets its contract. Assumes nothing.
 use borrow.Author.Rules.{rules}
-use Rattle.basis.proofs.Branch.{branch}
 use Rattle.desk.proofs.Running.{running}
 use Rattle.desk.proofs.run_open.Goals as goal
 
-pub returns-then-not-desk : goal.returns-then-not-desk
-returns-then-not-desk c = search (rules, branch, running)
+pub returns-in_default : goal.returns-in_default
+returns-in_default c = search (rules, running)
 
 pub open_in-opened-requires : goal.open_in-opened-requires
-open_in-opened-requires c = search (rules, branch, running)
+open_in-opened-requires c = search (rules, running)
 
 pub returns : goal.returns
-returns c = search (rules, branch, running)
+returns c = search (rules, running)

@@ -1,14 +1,10 @@
 -- `desk::run_ring` meets its contract. Assumes nothing.
 use borrow.Author.Rules.{rules}
-use Rattle.basis.proofs.Branch.{branch}
 use Rattle.desk.proofs.Running.{running}
 use Rattle.desk.proofs.run_ring.Goals as goal
 
-pub hold-heading-requires : goal.hold-heading-requires
-hold-heading-requires c = search (rules, branch, running)
+pub hold_accepted-desk-requires : goal.hold_accepted-desk-requires
+hold_accepted-desk-requires c = search (rules, running)
 
-pub returns-in-Granted : goal.returns-in-Granted
-returns-in-Granted c = search (rules, branch, running)
-
-pub returns-in-Refused : goal.returns-in-Refused
-returns-in-Refused c = search (rules, branch, running)
+pub returns : goal.returns
+returns c = search (rules, running)

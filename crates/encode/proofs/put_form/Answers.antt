@@ -6,12 +6,6 @@ use Rattle.encode.proofs.put_form.Goals as goal
 pub put_byte-start-requires : goal.put_byte-start-requires
 put_byte-start-requires c = search (rules, form_rules)
 
-pub slice_bounds-ports-end : goal.slice_bounds-ports-end
-slice_bounds-ports-end c = search (rules, form_rules)
-
-pub slice_bounds-put_text-end : goal.slice_bounds-put_text-end
-slice_bounds-put_text-end c = search (rules, form_rules)
-
 pub put_text-map-requires : goal.put_text-map-requires
 put_text-map-requires c = search (rules, form_rules)
 

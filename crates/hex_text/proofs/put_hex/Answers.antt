@@ -1,4 +1,4 @@
--- `hex_text::put_hex` meets its contract: what is still to be written is the bytes from i on. Assumes nothing.
+-- `hex_text::put_hex` meets its contract: what is still to be written is the bytes from the position on. Assumes nothing.
 use Rattle.std.proofs.Common.{rules}
 use Rattle.hex_text.proofs.Writing.{hexing}
 use Rattle.hex_text.proofs.put_hex.Goals as goal
@@ -6,8 +6,8 @@ use Rattle.hex_text.proofs.put_hex.Goals as goal
 pub put_pair-next-requires : goal.put_pair-next-requires
 put_pair-next-requires c = search (rules, hexing)
 
-pub loop-i-preserved : goal.loop-i-preserved
-loop-i-preserved c = search (rules, hexing)
+pub loop-byte-preserved : goal.loop-byte-preserved
+loop-byte-preserved c = search (rules, hexing)
 
 pub returns : goal.returns
 returns c = search (rules, hexing)

@@ -1,10 +1,6 @@
--- `hex_text::put_hex` meets its contract: what is still to be written is the bytes from i on. Assumes nothing.
-use Rattle.std.proofs.Common.{◌-◌, length}
+-- `hex_text::put_hex` meets its contract: what is still to be written is the bytes from the position on. Assumes nothing.
 use Rattle.hex_text.proofs.Writing.{Hexing}
 use Rattle.hex_text.proofs.put_hex.Given as goal
 
-abbrev pub invariant-loop-i : goal.invariant-loop-i
-invariant-loop-i l = Hexing l.bytes l.initial.out l.at l.out l.next l.i
-
-abbrev pub decreases-loop-i : goal.decreases-loop-i
-decreases-loop-i l = length l.bytes - l.i
+abbrev pub invariant-loop-byte : goal.invariant-loop-byte
+invariant-loop-byte l = Hexing l.bytes l.initial.out l.at l.out l.next l.byte-index

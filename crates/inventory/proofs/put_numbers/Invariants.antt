@@ -1,11 +1,6 @@
--- `inventory::put_numbers` meets its contract: what is still to be printed is the loads from i on. Assumes nothing.
-use Prim.Native.Nat.{◌-◌}
-use lib.ListN.{length}
+-- `inventory::put_numbers` meets its contract: what is still to be printed is the loads from `load-index` on. Assumes nothing.
 use Rattle.inventory.proofs.Loads.{Loading}
 use Rattle.inventory.proofs.put_numbers.Given as goal
 
-abbrev pub invariant-loop-i : goal.invariant-loop-i
-invariant-loop-i l = Loading l.loads l.initial.out l.at l.out l.next l.i
-
-abbrev pub decreases-loop-i : goal.decreases-loop-i
-decreases-loop-i l = length l.loads - l.i
+abbrev pub invariant-loop-load : goal.invariant-loop-load
+invariant-loop-load l = Loading l.loads l.initial.out l.at l.out l.next l.load-index

@@ -1,5 +1,4 @@
 -- `inventory::put_places` meets its contract: what is still to be printed is the places from p on. Assumes nothing.
-use Prim.Native.Nat.{◌-◌}
 use borrow.Author.Rules.{rules}
 use Rattle.basis.proofs.Arrays.{array_length}
 use Rattle.inventory.proofs.Places.{placing}
@@ -8,29 +7,14 @@ use Rattle.inventory.proofs.put_places.Goals as goal
 pub loop-p-init : goal.loop-p-init
 loop-p-init c = search (rules, placing)
 
-pub offset_bounds-channels-p : goal.offset_bounds-channels-p
-offset_bounds-channels-p c = search (rules, placing, array_length)
-
-pub bounds-channels-p : goal.bounds-channels-p
-bounds-channels-p c = search (rules, placing, array_length)
-
-pub overflow_cast-p : goal.overflow_cast-p
-overflow_cast-p c = search (rules, placing, array_length)
-
 pub put_slot-next-requires : goal.put_slot-next-requires
 put_slot-next-requires c = search (rules, placing, array_length)
-
-pub overflow_add-p : goal.overflow_add-p
-overflow_add-p c = search (rules, placing, array_length)
-
-pub loop-p-smaller : goal.loop-p-smaller
-loop-p-smaller c = search (rules, placing, array_length)
 
 pub loop-p-preserved : goal.loop-p-preserved
 loop-p-preserved c = search (rules, placing)
 
-pub shape_of-out : goal.shape_of-out
-shape_of-out c = search (rules, placing, array_length)
+pub overflow_cast-p : goal.overflow_cast-p
+overflow_cast-p c = search (rules, placing, array_length)
 
 pub returns : goal.returns
 returns c = search (rules, placing)

@@ -15,14 +15,14 @@ enum_known-verdict c = search (rules, lines)
 pub put_refusal-requires : goal.put_refusal-requires
 put_refusal-requires c = search (rules, lines)
 
-pub shape_of-out-in-Granted : goal.shape_of-out-in-Granted
-shape_of-out-in-Granted c = search (rules, lines)
+pub shape_of-out-in-Ok : goal.shape_of-out-in-Ok
+shape_of-out-in-Ok c = search (rules, lines)
 
-pub returns-in-Granted : goal.returns-in-Granted
-returns-in-Granted c = search (rules, lines)
+pub returns-in-Ok : goal.returns-in-Ok
+returns-in-Ok c = search (rules, lines)
 
-pub shape_of-out-in-Refused : goal.shape_of-out-in-Refused
-shape_of-out-in-Refused c = search (rules, lines)
+pub shape_of-out-in-Err : goal.shape_of-out-in-Err
+shape_of-out-in-Err c = search (rules, lines)
 
-pub returns-in-Refused : goal.returns-in-Refused
-returns-in-Refused c = search (rules, lines)
+pub returns-in-Err : goal.returns-in-Err
+returns-in-Err c = search (rules, lines)

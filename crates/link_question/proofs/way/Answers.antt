@@ -6,5 +6,5 @@ use Rattle.link_question.proofs.way.Goals as goal
 pub returns-then-direction-eq0 : goal.returns-then-direction-eq0
 returns-then-direction-eq0 c = search (rules, branch)
 
-pub returns : goal.returns
-returns c = search (rules, branch)
+pub returns-else-direction-eq0 : goal.returns-else-direction-eq0
+returns-else-direction-eq0 c = search (rules, branch)

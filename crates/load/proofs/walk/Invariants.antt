@@ -1,5 +1,4 @@
 -- `load::walk` meets its contract: the loads of the links up to `link` are written, and those of the last are kept. Assumes nothing.
-use Prim.Native.Nat.{◌-◌}
 use mathlib.Core.Path.{◌≡◌}
 use Rattle.load.specs.Walk.{running}
 use Rattle.load.proofs.Filled.{Filled}
@@ -7,9 +6,6 @@ use Rattle.load.proofs.walk.Given as goal
 
 abbrev pub invariant-loop-link : goal.invariant-loop-link
 invariant-loop-link l =
-    Filled (λ k. running l.starts l.stops l.first k) (λ k. running l.joins l.leaves l.second k) l.nodes l.initial.out l.link l.out
-    × (l.load ≡ running l.starts l.stops l.first l.link)
-    × (l.other ≡ running l.joins l.leaves l.second l.link)
-
-abbrev pub decreases-loop-link : goal.decreases-loop-link
-decreases-loop-link l = l.nodes - l.link
+    Filled (λ k. running l.clockwise.starts l.clockwise.stops l.clockwise.last k) (λ k. running l.counterclockwise.starts l.counterclockwise.stops l.counterclockwise.last k) l.nodes l.initial.out l.link l.out
+    × (l.load ≡ running l.clockwise.starts l.clockwise.stops l.clockwise.last l.link)
+    × (l.other ≡ running l.counterclockwise.starts l.counterclockwise.stops l.counterclockwise.last l.link)

@@ -6,8 +6,8 @@ use Rattle.monitor.proofs.ring_link.Goals as goal
 pub link_of-requires : goal.link_of-requires
 link_of-requires c = search (rules, accepting)
 
-pub returns-in-Granted : goal.returns-in-Granted
-returns-in-Granted c = search (rules, accepting)
+pub returns-in-Ok : goal.returns-in-Ok
+returns-in-Ok c = search (rules, accepting)
 
-pub returns-in-Refused : goal.returns-in-Refused
-returns-in-Refused c = search (rules, accepting)
+pub returns-in-Err : goal.returns-in-Err
+returns-in-Err c = search (rules, accepting)

@@ -6,5 +6,5 @@ use Rattle.node_lines.proofs.arrival.Goals as goal
 pub returns-then-circuit-node : goal.returns-then-circuit-node
 returns-then-circuit-node c = search (rules, placed)
 
-pub returns : goal.returns
-returns c = search (rules, placed)
+pub returns-else-circuit-node : goal.returns-else-circuit-node
+returns-else-circuit-node c = search (rules, placed)

@@ -1,62 +1,25 @@
 -- `pairs::first_pair` meets its contract. Assumes nothing.
-use Prim.Native.Nat.{◌-◌}
-use Rattle.pairs.proofs.Seek.{seek}
-use borrow.Author.Rules.{rules}
+use Prim.Native.Nat.{◌+◌, ◌-◌, ◌≤◌, ◌<◌}
+use lib.ListN.{length, length-drop}
+use lib.Seq.{length-take-le}
+use Rattle.std.proofs.Common.{rules, arith}
+use Rattle.pairs.proofs.Seek.{row_leave, pair_miss, pair_hit, pairs_end}
 use Rattle.pairs.proofs.first_pair.Goals as goal
 
-pub bounds-all-0 : goal.bounds-all-0
-bounds-all-0 c = search (rules, seek)
-
-pub bounds-all-0-2 : goal.bounds-all-0-2
-bounds-all-0-2 c = search (rules, seek)
-
-pub pairs-init : goal.pairs-init
-pairs-init c = (search rules, search rules, search (rules, seek))
-
-pub offset_bounds-all-i : goal.offset_bounds-all-i
-offset_bounds-all-i c = search (rules, seek)
-
-pub bounds-all-i : goal.bounds-all-i
-bounds-all-i c = search (rules, seek)
-
-pub overflow_step-j : goal.overflow_step-j
-overflow_step-j c = search (rules, seek)
-
-pub loop-j-init : goal.loop-j-init
-loop-j-init c = search (rules, seek)
-
-pub offset_bounds-all-j : goal.offset_bounds-all-j
-offset_bounds-all-j c = search (rules, seek)
-
-pub bounds-all-j : goal.bounds-all-j
-bounds-all-j c = search (rules, seek)
-
-pub overflow_add-looks : goal.overflow_add-looks
-overflow_add-looks c = search (rules, seek)
-
-pub adjacent-requires : goal.adjacent-requires
-adjacent-requires c = search (rules, seek)
-
-pub overflow_step-j-in-loop-j : goal.overflow_step-j-in-loop-j
-overflow_step-j-in-loop-j c = search (rules, seek)
-
-pub loop-j-smaller : goal.loop-j-smaller
-loop-j-smaller c = search (rules, seek)
-
-pub loop-j-preserved : goal.loop-j-preserved
-loop-j-preserved c = search (rules, seek)
-
-pub overflow_step-i : goal.overflow_step-i
-overflow_step-i c = search (rules, seek)
-
-pub pairs-smaller : goal.pairs-smaller
-pairs-smaller c = search (rules, seek)
+pub loop-b-preserved : goal.loop-b-preserved
+loop-b-preserved c =
+    let within : c.loop-b.b-index < length c.args.candidates.now - (c.pairs.i + 1) = search (rules, length-take-le, length-drop) in
+    (omega arith, pair_miss _ _ _ _ _ c.loop-b.invariant.1 within c.adjacent.ensures c.if-adjacent.false)
 
 pub pairs-preserved : goal.pairs-preserved
-pairs-preserved c = search (rules, seek)
+pairs-preserved c =
+    let past : length c.args.candidates.now - (c.pairs.i + 1) ≤ c.loop-b.b-index = search (rules, length-take-le, length-drop) in
+    (omega arith, row_leave _ _ _ _ c.loop-b.invariant.1 past)
 
 pub returns-after-pairs : goal.returns-after-pairs
-returns-after-pairs c = search (rules, seek)
+returns-after-pairs c = pairs_end _ _ _ _ c.pairs.invariant.1 c.pairs-test.false c.requires.1
 
 pub returns-then-adjacent : goal.returns-then-adjacent
-returns-then-adjacent c = search (rules, seek)
+returns-then-adjacent c =
+    let within : c.loop-b.b-index < length c.args.candidates.now - (c.pairs.i + 1) = search (rules, length-take-le, length-drop) in
+    pair_hit _ _ _ _ _ c.loop-b.invariant.1 within c.adjacent.ensures c.if-adjacent.true

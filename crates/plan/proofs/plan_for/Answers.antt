@@ -3,17 +3,8 @@ use Rattle.plan.proofs.Chosen.{chosen}
 use borrow.Author.Rules.{rules}
 use Rattle.plan.proofs.plan_for.Goals as goal
 
-pub joined-requires : goal.joined-requires
-joined-requires c = search (rules, chosen)
-
 pub returns-then-join-limit : goal.returns-then-join-limit
 returns-then-join-limit c = search (rules, chosen)
-
-pub unlit_place-unlit-requires : goal.unlit_place-unlit-requires
-unlit_place-unlit-requires c = search (rules, chosen)
-
-pub lighted-requires : goal.lighted-requires
-lighted-requires c = search (rules, chosen)
 
 pub returns-then-unlit-limit : goal.returns-then-unlit-limit
 returns-then-unlit-limit c = search (rules, chosen)

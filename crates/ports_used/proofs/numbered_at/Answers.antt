@@ -1,10 +1,7 @@
--- `ports_used::numbered_at` meets its contract. Assumes nothing.
+-- `ports_used::numbered_at` meets its contract: its closure is the test of a circuit. Assumes nothing.
+use lib.Dec.{eqb}
 use borrow.Author.Rules.{rules}
-use Rattle.ports_used.proofs.Counted.{counted}
 use Rattle.ports_used.proofs.numbered_at.Goals as goal
 
-pub returns-in-Alone : goal.returns-in-Alone
-returns-in-Alone c = search (rules, counted)
-
-pub returns-in-Shared : goal.returns-in-Shared
-returns-in-Shared c = search (rules, counted)
+pub returns : goal.returns
+returns c = (c.count_at.ensures.counted (λ a. eqb a.number c.args.number) (λ a b k. search rules), c.count_at.ensures.most)

@@ -4,9 +4,9 @@ use Rattle.requests.specs.Line.{parse_close}
 use Rattle.words.proofs.Parse.{parsing}
 use Rattle.requests.proofs.parse_close.Goals as goal
 
-pub returns-in_default : goal.returns-in_default
+pub returns-in_err-number : goal.returns-in_err-number
 unfolding parse_close
-returns-in_default c = search (rules, parsing)
+returns-in_err-number c = search (rules, parsing)
 
 pub returns : goal.returns
 unfolding parse_close

@@ -5,11 +5,17 @@ use Rattle.roster_rows.proofs.Lookups.{row_off, row_there, looking}
 use borrow.Author.Rules.{rules}
 use Rattle.roster_rows.proofs.row_valid.Goals as goal
 
+pub slice_bounds-keys-end : goal.slice_bounds-keys-end
+slice_bounds-keys-end c = search (rules, looking)
+
+pub slice_bounds-row_of-end : goal.slice_bounds-row_of-end
+slice_bounds-row_of-end c = search (rules, looking)
+
 pub row_of-row-requires : goal.row_of-row-requires
 row_of-row-requires c = search (rules, looking)
 
-pub offset_bounds-keys-start : goal.offset_bounds-keys-start
-offset_bounds-keys-start c = search (rules, looking)
+pub offset_bounds-keys-row : goal.offset_bounds-keys-row
+offset_bounds-keys-row c = search (rules, looking)
 
 pub slice_bounds-gather-count : goal.slice_bounds-gather-count
 slice_bounds-gather-count c = search (rules, looking)
@@ -20,8 +26,8 @@ slice_bounds-gather-start c = search (rules, looking)
 pub slice_bounds-gather-end : goal.slice_bounds-gather-end
 slice_bounds-gather-end c = search (rules, looking)
 
-pub offset_bounds-rests-start : goal.offset_bounds-rests-start
-offset_bounds-rests-start c = search (rules, looking)
+pub offset_bounds-rests-row : goal.offset_bounds-rests-row
+offset_bounds-rests-row c = search (rules, looking)
 
 pub slice_bounds-gather-count-2 : goal.slice_bounds-gather-count-2
 slice_bounds-gather-count-2 c = search (rules, looking)

@@ -1,13 +1,13 @@
 -- `roster_survey::is_adjacent` meets its contract. Assumes nothing.
+use Rattle.std.proofs.Common.{rules}
 use Rattle.basis.proofs.Branch.{branch}
 use Rattle.entries.specs.Entry.{entry_of}
-use borrow.Author.Rules.{rules}
 use Rattle.roster_survey.proofs.is_adjacent.Goals as goal
 
-pub returns-then-rest-circuit : goal.returns-then-rest-circuit
+pub returns-then-rest-from : goal.returns-then-rest-from
 unfolding entry_of
-returns-then-rest-circuit c = search (rules, branch)
+returns-then-rest-from c = search (rules, branch)
 
-pub returns-else-rest-circuit : goal.returns-else-rest-circuit
+pub returns-else-rest-from : goal.returns-else-rest-from
 unfolding entry_of
-returns-else-rest-circuit c = search (rules, branch)
+returns-else-rest-from c = search (rules, branch)

@@ -1,10 +1,7 @@
--- `roster_survey::pass_entries` meets its contract: `seen` is what the entries before i have. Assumes nothing.
-use Prim.Native.Nat.{◌-◌}
+-- `roster_survey::pass_entries` meets its contract: `seen` is what the entries so far have. Assumes nothing.
+use Rattle.std.proofs.Common.{length}
 use Rattle.roster_survey.proofs.Passing.{Passing}
 use Rattle.roster_survey.proofs.pass_entries.Given as goal
 
-abbrev pub invariant-loop-i : goal.invariant-loop-i
-invariant-loop-i l = Passing l.keys l.rests l.count l.circuit l.i l.seen
-
-abbrev pub decreases-loop-i : goal.decreases-loop-i
-decreases-loop-i l = l.count - l.i
+abbrev pub invariant-loop-key : goal.invariant-loop-key
+invariant-loop-key l = Passing l.keys l.rests l.count l.circuit (length l.yielded) l.seen

@@ -1,22 +1,22 @@
 -- `roster_survey::survey_entries` meets its contract. Assumes nothing.
-use Rattle.roster_survey.proofs.Surveyed.{surveyed}
-use borrow.Author.Rules.{rules}
+use Rattle.std.proofs.Common.{rules}
+use Rattle.roster_survey.proofs.Surveyed.{survey_count, surveyed}
 use Rattle.roster_survey.proofs.survey_entries.Goals as goal
 
 pub row_of-row-requires : goal.row_of-row-requires
-row_of-row-requires c = search (rules, surveyed)
+row_of-row-requires c = let held = survey_count _ _ _ _ _ _ _ c.from-count.ensures c.requires in search (rules, surveyed)
 
 pub pass_entries-seen-requires : goal.pass_entries-seen-requires
-pass_entries-seen-requires c = search (rules, surveyed)
+pass_entries-seen-requires c = let held = survey_count _ _ _ _ _ _ _ c.from-count.ensures c.requires in search (rules, surveyed)
 
 pub find_join-nearest-requires : goal.find_join-nearest-requires
-find_join-nearest-requires c = search (rules, surveyed)
-
-pub standing-join-requires : goal.standing-join-requires
-standing-join-requires c = search (rules, surveyed)
+find_join-nearest-requires c = let held = survey_count _ _ _ _ _ _ _ c.from-count.ensures c.requires in search (rules, surveyed)
 
 pub overflow_sub-result : goal.overflow_sub-result
-overflow_sub-result c = search (rules, surveyed)
+overflow_sub-result c = let held = survey_count _ _ _ _ _ _ _ c.from-count.ensures c.requires in search (rules, surveyed)
+
+pub standing-requires : goal.standing-requires
+standing-requires c = let held = survey_count _ _ _ _ _ _ _ c.from-count.ensures c.requires in search (rules, surveyed)
 
 pub returns : goal.returns
-returns c = search (rules, surveyed)
+returns c = let held = survey_count _ _ _ _ _ _ _ c.from-count.ensures c.requires in search (rules, surveyed)

@@ -1,38 +1,23 @@
--- `row_lines::put_entries` meets its contract: what is still to be printed is the entries from i on. Assumes nothing.
-use Prim.Native.Nat.{◌-◌}
+-- `row_lines::put_entries` meets its contract: what is still to be printed is the entries that the iterator has left. Assumes nothing.
+use mathlib.Core.Logic.{inl, inr}
+use mathlib.Core.Path.{◌≡◌}
+use native.Mathlib.Omega.{arith}
 use borrow.Author.Rules.{rules}
-use Rattle.row_lines.proofs.Entries.{sending}
+use lib.ListN.{length}
+use Rattle.row_lines.proofs.Entries.{send_none, send_all, send_room, send_next}
 use Rattle.row_lines.proofs.put_entries.Goals as goal
 
-pub loop-i-init : goal.loop-i-init
-loop-i-init c = search (rules, sending)
-
-pub offset_bounds-keys-i : goal.offset_bounds-keys-i
-offset_bounds-keys-i c = search (rules, sending)
-
-pub bounds-keys-i : goal.bounds-keys-i
-bounds-keys-i c = search (rules, sending)
-
-pub offset_bounds-rests-i : goal.offset_bounds-rests-i
-offset_bounds-rests-i c = search (rules, sending)
-
-pub bounds-rests-i : goal.bounds-rests-i
-bounds-rests-i c = search (rules, sending)
+pub loop-key-init : goal.loop-key-init
+loop-key-init c = search (rules, send_none)
 
 pub put_entry-next-requires : goal.put_entry-next-requires
-put_entry-next-requires c = search (rules, sending)
+put_entry-next-requires c = let h = c.in-Some.ensures.steps in send_room _ _ _ _ _ _ _ _ _ c.loop-key.invariant _ _ _ _ h.0 h.1
 
-pub overflow_add-i : goal.overflow_add-i
-overflow_add-i c = search (rules, sending)
-
-pub loop-i-smaller : goal.loop-i-smaller
-loop-i-smaller c = search (rules, sending)
-
-pub loop-i-preserved : goal.loop-i-preserved
-loop-i-preserved c = search (rules, sending)
-
-pub shape_of-out : goal.shape_of-out
-shape_of-out c = search (rules, sending)
+pub loop-key-preserved : goal.loop-key-preserved
+loop-key-preserved c = let h = c.in-Some.ensures.steps in send_next _ _ _ _ _ _ _ _ _ c.loop-key.invariant _ _ _ _ h.0 h.1 _ _ c.put_entry-next.ensures
 
 pub returns : goal.returns
-returns c = search (rules, sending)
+returns c =
+    let none : length c.loop-key.key-iterator.a.rest.now ≡ 0 =
+    elim c.in-None.ensures.steps [ inl a ↦ a.1.0 | inr b ↦ omega (arith, b.1.0, c.loop-key.invariant.same) ] in
+    send_all _ _ _ _ _ _ _ _ _ c.loop-key.invariant none

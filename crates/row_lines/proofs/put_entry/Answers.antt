@@ -6,8 +6,8 @@ use Rattle.row_lines.proofs.put_entry.Goals as goal
 pub overflow_cast-place : goal.overflow_cast-place
 overflow_cast-place c = search (rules, entry_words)
 
-pub returns-then-to : goal.returns-then-to
-returns-then-to c = search (rules, entry_words)
+pub returns-in-From : goal.returns-in-From
+returns-in-From c = search (rules, entry_words)
 
-pub returns : goal.returns
-returns c = search (rules, entry_words)
+pub returns-in-To : goal.returns-in-To
+returns-in-To c = search (rules, entry_words)

@@ -1,7 +1,7 @@
 -- `rows::row_of` meets its contract. Assumes nothing.
-use borrow.Author.Rules.{rules}
+use Rattle.std.proofs.Common.{rules}
 use Rattle.entries.specs.Entry.{row_key}
-use Rattle.rows.proofs.Found.{found}
+use Rattle.rows.proofs.Found.{row_found}
 use Rattle.rows.proofs.row_of.Goals as goal
 
 pub overflow_add-first : goal.overflow_add-first
@@ -9,4 +9,4 @@ unfolding row_key
 overflow_add-first c = search rules
 
 pub returns : goal.returns
-returns c = search (rules, found)
+returns c = search (rules, row_found)

@@ -3,11 +3,8 @@ use borrow.Author.Rules.{rules}
 use Rattle.saved_forms.proofs.Forms.{forms}
 use Rattle.saved_forms.proofs.read_word.Goals as goal
 
-pub same_text-requires : goal.same_text-requires
-same_text-requires c = search (rules, forms)
-
-pub returns-then-same_text : goal.returns-then-same_text
-returns-then-same_text c = search (rules, forms)
+pub returns-then-eq : goal.returns-then-eq
+returns-then-eq c = search (rules, forms)
 
 pub read_hex-requires : goal.read_hex-requires
 read_hex-requires c = search (rules, forms)

@@ -10,8 +10,8 @@ slice_bounds-form-end c = search (rules, forms)
 pub slice_bounds-take_form-end : goal.slice_bounds-take_form-end
 slice_bounds-take_form-end c = search (rules, forms, lent_counted)
 
-pub returns-in-Bytes : goal.returns-in-Bytes
-returns-in-Bytes c = search (rules, reading)
+pub returns-in-Some : goal.returns-in-Some
+returns-in-Some c = search (rules, reading)
 
-pub returns-in-Failed : goal.returns-in-Failed
-returns-in-Failed c = search (rules, reading)
+pub returns-in-None : goal.returns-in-None
+returns-in-None c = search (rules, reading)

@@ -4,11 +4,8 @@ use Rattle.form.proofs.Laws.{accepted_meets}
 use Rattle.saved_forms.proofs.Forms.{reading}
 use Rattle.saved_forms.proofs.take_form.Goals as goal
 
-pub hold-heading-requires : goal.hold-heading-requires
-hold-heading-requires c = search (rules, accepted_meets)
+pub hold_accepted-desk-requires : goal.hold_accepted-desk-requires
+hold_accepted-desk-requires c = search (rules, accepted_meets, reading)
 
-pub returns-in-Granted : goal.returns-in-Granted
-returns-in-Granted c = search (rules, reading)
-
-pub returns-in-Refused : goal.returns-in-Refused
-returns-in-Refused c = search (rules, reading)
+pub returns : goal.returns
+returns c = search (rules, reading)

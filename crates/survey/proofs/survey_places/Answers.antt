@@ -1,40 +1,26 @@
--- `survey::survey_places` meets its contract. The loop's invariant: `seen` is what the places from `place` on have. Assumes nothing.
-use Rattle.survey.proofs.Seen.{seen}
-use borrow.Author.Rules.{rules}
+-- `survey::survey_places` meets its contract. Assumes nothing.
+use mathlib.Core.Path.{◌∙◌}
+use Rattle.std.proofs.Common.{rules}
+use Rattle.survey.proofs.Seen.{seen_joined, seen_none, seen}
+use Rattle.survey.proofs.survey_places.Goals.{then-seen-limit, else-seen-limit}
 use Rattle.survey.proofs.survey_places.Goals as goal
 
 pub loop-place-init : goal.loop-place-init
 loop-place-init c = search (rules, seen)
 
-pub overflow_sub-place : goal.overflow_sub-place
-overflow_sub-place c = search (rules, seen)
-
-pub offset_bounds-channels-place : goal.offset_bounds-channels-place
-offset_bounds-channels-place c = search (rules, seen)
-
-pub bounds-channels-place : goal.bounds-channels-place
-bounds-channels-place c = search (rules, seen)
-
 pub with_place-seen-requires : goal.with_place-seen-requires
 with_place-seen-requires c = search (rules, seen)
-
-pub loop-place-smaller : goal.loop-place-smaller
-loop-place-smaller c = search (rules, seen)
 
 pub loop-place-preserved : goal.loop-place-preserved
 loop-place-preserved c = search (rules, seen)
 
-pub offset_bounds-channels-join : goal.offset_bounds-channels-join
-offset_bounds-channels-join c = search (rules, seen)
-
-pub bounds-channels-join : goal.bounds-channels-join
-bounds-channels-join c = search (rules, seen)
-
-pub first-partner-requires : goal.first-partner-requires
-first-partner-requires c = search (rules, seen)
-
-pub returns-then-join-limit : goal.returns-then-join-limit
-returns-then-join-limit c = search (rules, seen)
-
-pub returns-else-join-limit : goal.returns-else-join-limit
-returns-else-join-limit c = search (rules, seen)
+pub returns : goal.returns
+returns c =
+    elim c.if-seen-limit.branch [
+      | then-seen-limit w ↦
+          seen_joined _ _ _ _ (search (rules, seen)) c.requires.1 _ _ c.loop-place.invariant c.loop-place-test.false _ w.if-seen-limit.true
+          (w.partner-is ∙ w.first-partner.ensures)
+      | else-seen-limit w ↦
+          seen_none _ _ _ _ (search (rules, seen)) c.requires.1 _ _ c.loop-place.invariant c.loop-place-test.false _ w.if-seen-limit.false
+          w.partner-is
+    ]

@@ -1,32 +1,12 @@
--- `channels::search::where_is` meets its contract: no place before p holds the number. Assumes nothing.
-use Prim.Native.Nat.{◌-◌}
-use Rattle.basis.proofs.Scan.{scan}
+-- `channels::search::where_is` meets its contract. Assumes nothing.
 use borrow.Author.Rules.{rules}
+use Rattle.std.proofs.lemmas.Iterator.{YieldsList-from_slice}
+use Rattle.std.proofs.lemmas.Iterator.Search.{position_from_yields_List}
+use Rattle.slots.specs.Slot.{holds}
+use Rattle.channels.proofs.Found.{found_at}
 use Rattle.channels.proofs.search.where_is.Goals as goal
 
-pub loop-p-init : goal.loop-p-init
-loop-p-init c = search (rules, scan)
-
-pub offset_bounds-channels-p : goal.offset_bounds-channels-p
-offset_bounds-channels-p c = search (rules, scan)
-
-pub bounds-channels-p : goal.bounds-channels-p
-bounds-channels-p c = search (rules, scan)
-
-pub holds-requires : goal.holds-requires
-holds-requires c = search (rules, scan)
-
-pub returns-then-holds : goal.returns-then-holds
-returns-then-holds c = search (rules, scan)
-
-pub overflow_add-p : goal.overflow_add-p
-overflow_add-p c = search (rules, scan)
-
-pub loop-p-smaller : goal.loop-p-smaller
-loop-p-smaller c = search (rules, scan)
-
-pub loop-p-preserved : goal.loop-p-preserved
-loop-p-preserved c = search (rules, scan)
-
 pub returns : goal.returns
-returns c = search (rules, scan)
+returns c =
+    let found = position_from_yields_List (λ ch. holds c.args.number ch.slot) _ _ _ c.position.ensures.ran (YieldsList-from_slice c.args.channels cc) (λ x b q k. search rules) in
+    rw found (found_at c.args.channels c.args.number (search rules))

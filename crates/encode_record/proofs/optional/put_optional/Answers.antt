@@ -9,5 +9,5 @@ returns-then-value-eq0 c = search (rules, optional_rules)
 pub put_number-requires : goal.put_number-requires
 put_number-requires c = search (rules, optional_rules)
 
-pub returns : goal.returns
-returns c = search (rules, optional_rules)
+pub returns-else-value-eq0 : goal.returns-else-value-eq0
+returns-else-value-eq0 c = search (rules, optional_rules)

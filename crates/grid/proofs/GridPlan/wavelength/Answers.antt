@@ -1,16 +1,17 @@
 -- `grid::GridPlan::wavelength` meets its contract. Assumes nothing.
 use borrow.Author.Rules.{rules}
 use Rattle.grid.proofs.Calls.{granted_plan, carried_said, carried_refused}
-use Rattle.std.proofs.Common.{refl}
+use Rattle.std.proofs.lemmas.Result.{err_from_is_err_and}
 use Rattle.grid.proofs.GridPlan.wavelength.Goals as goal
 
 pub carried-requires : goal.carried-requires
 carried-requires c = search (rules, granted_plan)
 
-pub returns-in-Granted : goal.returns-in-Granted
-returns-in-Granted c = search (rules, carried_said)
+pub returns : goal.returns
+returns c = search (rules, carried_said)
 
-pub returns-in-Refused : goal.returns-in-Refused
-returns-in-Refused c =
-    let h = carried_refused c.args.self _ _ c.in-Refused.refusal c.in-Refused.ensures refl in
-    record { answer = h.0; numbers = h.1 }
+pub returns-in_err-judge : goal.returns-in_err-judge
+returns-in_err-judge c =
+    let p = err_from_is_err_and c.from_residual.result c.from_residual.ensures.1 in
+    let h = carried_refused c.args.self c.args.frequency.0 _ _ c.judge.ensures c.in_err-judge.was in
+    rw (p.1, p.2) (record { answer = h.0; numbers = h.1 })

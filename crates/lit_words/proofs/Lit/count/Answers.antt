@@ -1,11 +1,8 @@
 -- `lit_words::Lit::count` meets its contract. Assumes nothing.
 use borrow.Author.Rules.{rules}
 use Rattle.lit_words.specs.Lit.{ones_of}
-use Rattle.lit_words.proofs.LitBits.{lit_count, ones_fit}
+use Rattle.lit_words.proofs.LitBits.{lit_count}
 use Rattle.lit_words.proofs.Lit.count.Goals as goal
-
-pub overflow_add-result : goal.overflow_add-result
-overflow_add-result c = search (rules, ones_fit)
 
 pub returns : goal.returns
 unfolding ones_of

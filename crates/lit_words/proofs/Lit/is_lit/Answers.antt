@@ -8,6 +8,6 @@ pub returns-then-place-lt64 : goal.returns-then-place-lt64
 unfolding bit_of lit_bit
 returns-then-place-lt64 c = search (rules, branch)
 
-pub returns : goal.returns
+pub returns-else-place-lt64 : goal.returns-else-place-lt64
 unfolding bit_of lit_bit
-returns c = search (rules, branch)
+returns-else-place-lt64 c = search (rules, branch)

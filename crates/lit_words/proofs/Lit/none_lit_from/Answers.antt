@@ -1,20 +1,17 @@
--- `lit_words::Lit::none_lit_from` meets its contract: each place before this one is below the limit or unlit. Assumes nothing.
+-- `lit_words::Lit::none_lit_from` meets its contract. Assumes nothing.
 use Prim.Native.Nat.{◌-◌}
+use mathlib.Core.Path.{refl, ◌∙◌}
+use mathlib.Core.Bool.{not}
 use borrow.Author.Rules.{rules}
-use Rattle.basis.proofs.Scan.{scan}
-use Rattle.lit_words.specs.Lit.{none_lit_from}
+use Rattle.std.proofs.lemmas.Iterator.{YieldsList-from_range}
+use Rattle.std.proofs.lemmas.Iterator.Search.{all_from_yields_List}
+use Rattle.limits.specs.Limits.{place_count}
+use Rattle.lit_words.specs.Lit.{lit_bit}
+use Rattle.lit_words.proofs.NoneLit.{none_in_range}
 use Rattle.lit_words.proofs.Lit.none_lit_from.Goals as goal
 
-pub loop-place-init : goal.loop-place-init
-loop-place-init c = search (rules, scan)
-
-pub returns-then-not-below_or_unlit : goal.returns-then-not-below_or_unlit
-unfolding none_lit_from
-returns-then-not-below_or_unlit c = search (rules, scan)
-
-pub loop-place-preserved : goal.loop-place-preserved
-loop-place-preserved c = search (rules, scan)
-
 pub returns : goal.returns
-unfolding none_lit_from
-returns c = search (rules, scan)
+returns c =
+    all_from_yields_List (λ p. not (lit_bit c.args.self p)) _ _ _ c.all.ensures.ran
+    (YieldsList-from_range c.args.limit place_count (place_count - c.args.limit) refl refl) (λ x b q k. search rules)
+    ∙ none_in_range c.args.limit (lit_bit c.args.self)

@@ -4,11 +4,11 @@ use Rattle.ring.proofs.Closing.{close_missed, close_found}
 use Rattle.ring.proofs.Numbers.{closes}
 use Rattle.ring.proofs.RingTable.close_valid.Goals as goal
 
-pub returns-then-place-ge-PLACE_COUNT-clause-answer : goal.returns-then-place-ge-PLACE_COUNT-clause-answer
-returns-then-place-ge-PLACE_COUNT-clause-answer c = search (rules, close_missed)
+pub returns-in_default-clause-answer : goal.returns-in_default-clause-answer
+returns-in_default-clause-answer c = search (rules, close_missed)
 
-pub returns-then-place-ge-PLACE_COUNT-clause-numbers : goal.returns-then-place-ge-PLACE_COUNT-clause-numbers
-returns-then-place-ge-PLACE_COUNT-clause-numbers c = (closes _ _ _ (returns-then-place-ge-PLACE_COUNT-clause-answer c)).1
+pub returns-in_default-clause-numbers : goal.returns-in_default-clause-numbers
+returns-in_default-clause-numbers c = (closes _ _ _ (returns-in_default-clause-answer c)).1
 
 pub returns-clause-answer : goal.returns-clause-answer
 returns-clause-answer c = search (rules, close_found)

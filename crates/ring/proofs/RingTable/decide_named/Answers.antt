@@ -10,8 +10,8 @@ survey_places-seen-requires c = search (rules, places)
 pub place_seen-requires : goal.place_seen-requires
 place_seen-requires c = search (rules, deciding)
 
-pub returns-in-Granted : goal.returns-in-Granted
-returns-in-Granted c = search (rules, deciding)
+pub returns-in-Ok : goal.returns-in-Ok
+returns-in-Ok c = search (rules, deciding)
 
-pub returns-in-Refused : goal.returns-in-Refused
-returns-in-Refused c = search (rules, deciding)
+pub returns-in-Err : goal.returns-in-Err
+returns-in-Err c = search (rules, deciding)

@@ -13,14 +13,14 @@ returns-then-not-node_count_holds-clause-numbers c = (makes _ _ _ (returns-then-
 pub port_fields-fields-requires : goal.port_fields-fields-requires
 port_fields-fields-requires c = search (rules, making)
 
-pub returns-in-Granted-clause-answer : goal.returns-in-Granted-clause-answer
-returns-in-Granted-clause-answer c = search (rules, making)
+pub returns-in-Ok-clause-answer : goal.returns-in-Ok-clause-answer
+returns-in-Ok-clause-answer c = search (rules, making)
 
-pub returns-in-Granted-clause-numbers : goal.returns-in-Granted-clause-numbers
-returns-in-Granted-clause-numbers c = (makes _ _ _ (returns-in-Granted-clause-answer c)).1
+pub returns-in-Ok-clause-numbers : goal.returns-in-Ok-clause-numbers
+returns-in-Ok-clause-numbers c = (makes _ _ _ (returns-in-Ok-clause-answer c)).1
 
-pub returns-in-Refused-clause-answer : goal.returns-in-Refused-clause-answer
-returns-in-Refused-clause-answer c = search (rules, making)
+pub returns-in-Err-clause-answer : goal.returns-in-Err-clause-answer
+returns-in-Err-clause-answer c = search (rules, making)
 
-pub returns-in-Refused-clause-numbers : goal.returns-in-Refused-clause-numbers
-returns-in-Refused-clause-numbers c = (makes _ _ _ (returns-in-Refused-clause-answer c)).1
+pub returns-in-Err-clause-numbers : goal.returns-in-Err-clause-numbers
+returns-in-Err-clause-numbers c = (makes _ _ _ (returns-in-Err-clause-answer c)).1

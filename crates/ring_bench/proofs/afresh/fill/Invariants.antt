@@ -1,5 +1,4 @@
 -- `ring_bench::afresh::fill` meets its contract: the loads of the links up to `link` are written. Assumes nothing.
-use Prim.Native.Nat.{◌-◌}
 use Rattle.lightpath.specs.declared.Direction.TheVariants.{Clockwise as clockwise, Counterclockwise as counterclockwise}
 use Rattle.load.specs.Load.{link_load}
 use Rattle.load.proofs.Filled.{Filled}
@@ -7,6 +6,3 @@ use Rattle.ring_bench.proofs.afresh.fill.Given as goal
 
 abbrev pub invariant-loop-link : goal.invariant-loop-link
 invariant-loop-link l = Filled (λ k. link_load l.nodes l.channels clockwise k) (λ k. link_load l.nodes l.channels counterclockwise k) l.nodes l.initial.out l.link l.out
-
-abbrev pub decreases-loop-link : goal.decreases-loop-link
-decreases-loop-link l = l.nodes - l.link

@@ -10,8 +10,8 @@ loop-node-init c = search (rules, held, rows_all, rowed)
 pub row_of-row-requires : goal.row_of-row-requires
 row_of-row-requires c = search (rules, held, rows_all, rowed)
 
-pub offset_bounds-keys-start : goal.offset_bounds-keys-start
-offset_bounds-keys-start c = search (rules, held, rows_all, rowed)
+pub offset_bounds-keys-row : goal.offset_bounds-keys-row
+offset_bounds-keys-row c = search (rules, held, rows_all, rowed)
 
 pub slice_bounds-with_row-count : goal.slice_bounds-with_row-count
 slice_bounds-with_row-count c = search (rules, held, rows_all, rowed)
@@ -22,8 +22,8 @@ slice_bounds-with_row-start c = search (rules, held, rows_all, rowed)
 pub slice_bounds-with_row-end : goal.slice_bounds-with_row-end
 slice_bounds-with_row-end c = search (rules, held, rows_all, rowed)
 
-pub offset_bounds-rests-start : goal.offset_bounds-rests-start
-offset_bounds-rests-start c = search (rules, held, rows_all, rowed)
+pub offset_bounds-rests-row : goal.offset_bounds-rests-row
+offset_bounds-rests-row c = search (rules, held, rows_all, rowed)
 
 pub slice_bounds-with_row-count-in-loop-node : goal.slice_bounds-with_row-count-in-loop-node
 slice_bounds-with_row-count-in-loop-node c = search (rules, held, rows_all, rowed)

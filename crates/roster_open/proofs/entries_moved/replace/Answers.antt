@@ -1,10 +1,10 @@
 -- `roster_open::replace` meets its contract. Assumes nothing.
-use borrow.Author.Rules.{rules}
-use Rattle.roster_open.proofs.Replaced.{replacing}
+use Rattle.std.proofs.Common.{rules}
+use Rattle.roster_open.proofs.Replaced.{replace_at, replace_none}
 use Rattle.roster_open.proofs.entries_moved.replace.Goals as goal
 
-pub returns-then-at-count : goal.returns-then-at-count
-returns-then-at-count c = search (rules, replacing)
+pub returns-in-Some : goal.returns-in-Some
+returns-in-Some c = search (rules, replace_at)
 
-pub returns-else-at-count : goal.returns-else-at-count
-returns-else-at-count c = search (rules, replacing)
+pub returns-in_default : goal.returns-in_default
+returns-in_default c = replace_none _ _ _ _ c.in_default.ensures

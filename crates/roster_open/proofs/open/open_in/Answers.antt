@@ -6,8 +6,8 @@ use Rattle.roster_open.proofs.open.open_in.Goals as goal
 pub open_named-requires : goal.open_named-requires
 open_named-requires c = search (rules, opening)
 
-pub returns-in-Granted : goal.returns-in-Granted
-returns-in-Granted c = search (rules, opening)
+pub returns-in-Ok : goal.returns-in-Ok
+returns-in-Ok c = search (rules, opening)
 
-pub returns-in-Refused : goal.returns-in-Refused
-returns-in-Refused c = search (rules, opening)
+pub returns-in-Err : goal.returns-in-Err
+returns-in-Err c = search (rules, opening)

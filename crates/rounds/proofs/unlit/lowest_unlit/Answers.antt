@@ -1,32 +1,32 @@
--- `rounds::unlit::lowest_unlit` meets its contract. No place below `p` is unlit and of the direction. Assumes nothing.
-use Prim.Native.Nat.{◌-◌}
-use Rattle.basis.proofs.Scan.{scan}
-use borrow.Author.Rules.{rules}
+-- `rounds::unlit::lowest_unlit` meets its contract. Assumes nothing.
+use Prim.Native.Nat.{◌<◌}
+use mathlib.Core.Path.{◌≡◌}
+use lib.ListN.{length}
+use lib.Seq.{get_or-take, length-take-le}
+use Rattle.std.proofs.Common.{rules, arith}
+use Rattle.basis.proofs.Arrays.{array_length}
+use Rattle.basis.proofs.Scan.{scan_next, scan_hit, scan_end, scan}
+use Rattle.limits.specs.Limits.{place_count}
+use Rattle.channels.specs.Channels.{unlit_channel}
+use Rattle.rounds.proofs.unlit.lowest_unlit.Goals.{In-loop-place}
 use Rattle.rounds.proofs.unlit.lowest_unlit.Goals as goal
 
-pub loop-p-init : goal.loop-p-init
-loop-p-init c = search (rules, scan)
+pub loop-place-init : goal.loop-place-init
+loop-place-init c = search (rules, scan)
 
-pub offset_bounds-channels-p : goal.offset_bounds-channels-p
-offset_bounds-channels-p c = search (rules, scan)
-
-pub bounds-channels-p : goal.bounds-channels-p
-bounds-channels-p c = search (rules, scan)
-
-pub unlit_in-requires : goal.unlit_in-requires
-unlit_in-requires c = search (rules, scan)
+pub loop-place-preserved : goal.loop-place-preserved
+loop-place-preserved c =
+    let long : length c.args.channels ≡ place_count = search (rules, array_length) in
+    let within : c.loop-place.place < c.args.limit = omega (arith, length-take-le c.args.limit c.args.channels (omega arith)) in
+    scan_next _ _ _ _ c.loop-place.invariant (rw (get_or-take c.args.limit c.args.channels c.loop-place.place unlit_channel within) at c.unlit_in.ensures) c.if-unlit_in.false
 
 pub returns-then-unlit_in : goal.returns-then-unlit_in
-returns-then-unlit_in c = search (rules, scan)
-
-pub overflow_add-p : goal.overflow_add-p
-overflow_add-p c = search (rules, scan)
-
-pub loop-p-smaller : goal.loop-p-smaller
-loop-p-smaller c = search (rules, scan)
-
-pub loop-p-preserved : goal.loop-p-preserved
-loop-p-preserved c = search (rules, scan)
+returns-then-unlit_in c =
+    let long : length c.args.channels ≡ place_count = search (rules, array_length) in
+    let within : c.loop-place.place < c.args.limit = omega (arith, length-take-le c.args.limit c.args.channels (omega arith)) in
+    scan_hit _ _ _ _ c.loop-place.invariant (rw (get_or-take c.args.limit c.args.channels c.loop-place.place unlit_channel within) at c.unlit_in.ensures) c.if-unlit_in.true within
 
 pub returns : goal.returns
-returns c = search (rules, scan)
+returns c =
+    let long : length c.args.channels ≡ place_count = search (rules, array_length) in
+    scan_end _ _ _ c.loop-place.invariant (omega (arith, length-take-le c.args.limit c.args.channels (omega arith)))

@@ -1,5 +1,5 @@
 -- `rules::numbers::numbers_distinct` meets its contract. Assumes nothing.
-use borrow.Author.Rules.{rules}
+use Rattle.std.proofs.Common.{rules}
 use Rattle.rules.proofs.Distinct.{numbers_distinct}
 use Rattle.rules.proofs.numbers.numbers_distinct.Goals as goal
 

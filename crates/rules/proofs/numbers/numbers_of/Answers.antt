@@ -1,33 +1,14 @@
 -- `rules::numbers::numbers_of` meets its contract. Assumes nothing.
--- the numbers of the circuits before i are set
-use Prim.Native.Nat.{◌-◌}
-use borrow.Author.Rules.{rules}
-use Rattle.rules.proofs.Distinct.{beside}
+use Rattle.std.proofs.Common.{arith}
+use Rattle.limits.specs.Limits.{circuit_room}
+use Rattle.rules.proofs.Distinct.{beside_start, beside_next, beside_end}
 use Rattle.rules.proofs.numbers.numbers_of.Goals as goal
 
 pub loop-i-init : goal.loop-i-init
-loop-i-init c = search (rules, beside)
-
-pub offset_bounds-list-i : goal.offset_bounds-list-i
-offset_bounds-list-i c = search (rules, beside)
-
-pub bounds-list-i : goal.bounds-list-i
-bounds-list-i c = search (rules, beside)
-
-pub offset_bounds-numbers-i : goal.offset_bounds-numbers-i
-offset_bounds-numbers-i c = search (rules, beside)
-
-pub bounds-numbers-i : goal.bounds-numbers-i
-bounds-numbers-i c = search (rules, beside)
-
-pub overflow_step-i : goal.overflow_step-i
-overflow_step-i c = search (rules, beside)
-
-pub loop-i-smaller : goal.loop-i-smaller
-loop-i-smaller c = search (rules, beside)
+loop-i-init c = beside_start _ circuit_room
 
 pub loop-i-preserved : goal.loop-i-preserved
-loop-i-preserved c = search (rules, beside)
+loop-i-preserved c = beside_next _ _ _ _ c.loop-i.invariant (omega arith) (omega arith)
 
 pub returns : goal.returns
-returns c = search (rules, beside)
+returns c = beside_end _ _ _ _ c.loop-i.invariant (omega arith)

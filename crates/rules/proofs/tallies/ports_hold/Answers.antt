@@ -1,5 +1,5 @@
 -- `rules::tallies::ports_hold` meets its contract. Assumes nothing.
-use borrow.Author.Rules.{rules}
+use Rattle.std.proofs.Common.{rules}
 use Rattle.rules.proofs.InUse.{enough_holds}
 use Rattle.rules.proofs.tallies.ports_hold.Goals as goal
 

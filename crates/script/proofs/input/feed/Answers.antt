@@ -1,58 +1,31 @@
 -- `script::input::feed` meets its contract. The loop's invariant: of the chunk the first i bytes are taken in, and what they print stands in the
 -- lent bytes up to `at`. Assumes nothing.
 use borrow.Author.Rules.{rules}
-use Prim.Native.Nat.{◌-◌}
-use Rattle.script.proofs.Feeding.{feed_all}
-use Rattle.script.proofs.Feeding.{feeding}
+use Rattle.script.proofs.Feeding.{feeding, feed_all, feed_line, feed_hold, feed_drop}
 use Rattle.script.proofs.input.feed.Goals as goal
+use Rattle.script.proofs.input.feed.Goals.{then-byte-eq10, else-byte-eq10+then-fits, else-byte-eq10+else-fits}
 
-pub loop-i-init : goal.loop-i-init
-loop-i-init c = search (rules, feeding)
-
-pub bounds-chunk-i : goal.bounds-chunk-i
-bounds-chunk-i c = search (rules, feeding)
-
-pub overflow_add-i : goal.overflow_add-i
-overflow_add-i c = search (rules, feeding)
+pub loop-byte-init : goal.loop-byte-init
+loop-byte-init c = search (rules, feeding)
 
 pub slice_bounds-run_line-end : goal.slice_bounds-run_line-end
 slice_bounds-run_line-end c = search (rules, feeding)
 
-pub slice_bounds-run_line-end-then-byte-eq10 : goal.slice_bounds-run_line-end-then-byte-eq10
-slice_bounds-run_line-end-then-byte-eq10 c = search (rules, feeding)
-
-pub slice_bounds-line-end : goal.slice_bounds-line-end
-slice_bounds-line-end c = search (rules, feeding)
-
-pub slice_bounds-run_line-end-then-byte-eq10-2 : goal.slice_bounds-run_line-end-then-byte-eq10-2
-slice_bounds-run_line-end-then-byte-eq10-2 c = search (rules, feeding)
-
 pub run_line-ran-requires : goal.run_line-ran-requires
 run_line-ran-requires c = search (rules, feeding)
 
-pub loop-i-smaller-then-byte-eq10 : goal.loop-i-smaller-then-byte-eq10
-loop-i-smaller-then-byte-eq10 c = search (rules, feeding)
-
-pub loop-i-preserved-then-byte-eq10 : goal.loop-i-preserved-then-byte-eq10
-loop-i-preserved-then-byte-eq10 c = search (rules, feeding)
-
-pub bounds-line-held : goal.bounds-line-held
-bounds-line-held c = search (rules, feeding)
-
-pub overflow_add-held : goal.overflow_add-held
-overflow_add-held c = search (rules, feeding)
-
-pub loop-i-smaller-then-held-lt-MOST_HELD : goal.loop-i-smaller-then-held-lt-MOST_HELD
-loop-i-smaller-then-held-lt-MOST_HELD c = search (rules, feeding)
-
-pub loop-i-preserved-then-held-lt-MOST_HELD : goal.loop-i-preserved-then-held-lt-MOST_HELD
-loop-i-preserved-then-held-lt-MOST_HELD c = search (rules, feeding)
-
-pub loop-i-smaller : goal.loop-i-smaller
-loop-i-smaller c = search (rules, feeding)
-
-pub loop-i-preserved : goal.loop-i-preserved
-loop-i-preserved c = search (rules, feeding)
+pub loop-byte-preserved : goal.loop-byte-preserved
+loop-byte-preserved c = elim c.if-byte-eq10.branch [
+  | then-byte-eq10 w ↦
+      rw (w.out-is, w.keys-is, w.rests-is, w.desk-is, w.line-is, w.held-is, w.at-is)
+      (feed_line _ _ _ _ _ _ _ _ _ _ _ c.loop-byte.invariant c.loop-byte-test.true _ _ _ _ w.if-byte-eq10.true w.run_line-ran.ensures.answer)
+  | else-byte-eq10+then-fits w ↦
+      rw (w.out-is, w.keys-is, w.rests-is, w.desk-is, w.line-is, w.held-is, w.at-is)
+      (feed_hold _ _ _ _ _ _ _ _ _ _ _ c.loop-byte.invariant c.loop-byte-test.true w.if-byte-eq10.false w.if-fits.true)
+  | else-byte-eq10+else-fits w ↦
+      rw (w.out-is, w.keys-is, w.rests-is, w.desk-is, w.line-is, w.held-is, w.at-is)
+      (feed_drop _ _ _ _ _ _ _ _ _ _ _ c.loop-byte.invariant c.loop-byte-test.true w.if-byte-eq10.false w.if-fits.false)
+]
 
 pub shape_of-out : goal.shape_of-out
 shape_of-out c = search (rules, feeding)

@@ -1,7 +1,0 @@
--- `plan::plan::lighted` meets its contract. Assumes nothing.
-use Rattle.plan.proofs.Made.{made}
-use borrow.Author.Rules.{rules}
-use Rattle.plan.proofs.plan.lighted.Goals as goal
-
-pub returns : goal.returns
-returns c = search (rules, made)

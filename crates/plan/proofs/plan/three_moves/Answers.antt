@@ -1,7 +1,0 @@
--- `plan::plan::three_moves` meets its contract. Assumes nothing.
-use Rattle.plan.proofs.Made.{made}
-use borrow.Author.Rules.{rules}
-use Rattle.plan.proofs.plan.three_moves.Goals as goal
-
-pub returns : goal.returns
-returns c = search (rules, made)

@@ -1,2 +1,0 @@
--- How the circuits of a place are counted.
-pub mod Counted
