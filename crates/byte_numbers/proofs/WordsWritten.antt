@@ -1,6 +1,6 @@
 -- A word written, and the two words of the map. Assumes nothing.
 use Prim.Native.Nat.{ℕ, zero, suc, ◌+◌, ◌*◌, ◌/◌, ◌%◌}
-use mathlib.Core.Path.{◌≡◌, refl}
+use mathlib.Core.Path.{◌≡◌, refl, sym, ◌∙◌}
 use mathlib.Core.Bool.{Bool}
 use mathlib.Core.List.{List, [], ◌∷◌, ◌++◌}
 use native.Mathlib.Omega.{arith}
@@ -30,10 +30,15 @@ module _ (w : ℕ) (v : List ℕ) (e : v ≡ to_le_bytes w64 w) (l : List ℕ) (
   pub word_room : Room l i (low_first 8 w) → Room l i v
   word_room h = rw (e, eight_are w) h
 
-  pub word_put : (l1 : List ℕ) (n : ℕ) → Put l i v l1 n → Put l i (low_first 8 w) l1 n
-  word_put l1 n p = rw (e, eight_are w) at p
+  -- the position after them
+  pub word_end : (l1 : List ℕ) (n : ℕ) → Put l i v l1 n → n ≡ i + 8
+  unfolding low_first
+  word_end l1 n p = let q : Put l i (low_first 8 w) l1 n = rw (e, eight_are w) at p in q.end
 
-pub ruleset wording = (word_room, word_put)
+  pub word_put : (l1 : List ℕ) (n m : ℕ) → Put l i v l1 n → m ≡ i + 8 → Put l i (low_first 8 w) l1 m
+  word_put l1 n m p h = let k : m ≡ n = h ∙ sym (word_end l1 n p) in rw k (rw (e, eight_are w) at p)
+
+pub ruleset wording = (word_room, word_end, word_put)
 
 -- the two words, the low one first
 module _ (lit : Lit) (l : List ℕ) (i : ℕ) (h : Room l i (words_bytes lit)) where

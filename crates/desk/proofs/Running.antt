@@ -31,7 +31,8 @@ use Rattle.buffer.specs.Put.{Printed}
 use Rattle.buffer.proofs.Put.{wider}
 use Rattle.print.specs.Answers.{line_refused, ring_line, close_line, open_line, move_lines, close_room, ring_room, opening_room}
 use Rattle.desk.specs.Desk.{Desk, Ran, desk_with, desk_of, desk_after, Keeps, answer_room, refuse, run_ring, run_open, run_close, run, run_line, CanRun, HasRun}
-use Rattle.std.specs.Prelude.{Option, Some, None, Ok}
+use Rattle.refusals.specs.declared.Refusal.{Refusal}
+use Rattle.std.specs.Prelude.{Option, Some, None, Ok, Err}
 
 -- before the first accepted ring an opening and a closing are refused lines
 unready_open : (d : Desk) (c : Circuit) → d.ready ≡ false → run_open d c ≡ refuse d
@@ -118,6 +119,10 @@ module _ (d : Option Heading) (keys rests l : List ℕ) (at : ℕ) (s : CanRun d
         → HasRun (run_ring (desk_of d keys rests) n ks) l at keys' rests' l' (record { desk = d'; next = e })
     unfolding run_ring
     ringed keys' rests' d' h = record { desk = h.0 ∙ rw (← k); text = rw (← k, ← i) (wider (omega arith) p); keeps = h.1 }
+
+    -- a refused ring leaves the desk as it was
+    pub not_ringed : (r : Refusal) → a.verdict ≡ Err r → HasRun (run_ring (desk_of d keys rests) n ks) l at keys rests l' (record { desk = d; next = e })
+    not_ringed r h = ringed keys rests d (rw h, s.keeps)
 
 pub ruleset running = (run_room, run_held, run_keeps, run_keys, run_rests, refused_line_lem, refused_open, refused_close, opened, closed, ring_meets, ringed)
 

@@ -20,6 +20,13 @@ pub direction_same : (d : Direction) → same_direction d d ≡ true
 direction_same clockwise = refl
 direction_same counterclockwise = refl
 
+-- the place of a wavelength clockwise, and counterclockwise
+pub place_clockwise : (w : ℕ) (d : Direction) → d ≡ clockwise → 2 * w ≡ place_of w d
+place_clockwise w d e = rw e (omega arith)
+
+pub place_counterclockwise : (w : ℕ) (d : Direction) → d ≡ counterclockwise → 2 * w + 1 ≡ place_of w d
+place_counterclockwise w d e = rw e
+
 -- the place of a wavelength in a direction has that wavelength
 pub wavelength_place : (w : ℕ) (d : Direction) → wavelength_of (place_of w d) ≡ w
 wavelength_place w clockwise = omega arith

@@ -5,7 +5,7 @@ use mathlib.Core.Logic.{◌≢◌}
 use mathlib.Core.Bool.{Bool, true, false, or_comm, true≢false}
 use native.Mathlib.Nat.{add_comm}
 use native.Mathlib.Omega.{arith}
-use lib.Dec.{eqb}
+use lib.Dec.{eqb, leb}
 use borrow.Author.Tests.{leb-true, leb-false, le-leb, eq-eqb}
 use Rattle.basis.specs.Choice.{pick, bit}
 use Rattle.basis.proofs.Bools.{and_left, and_right, fails}
@@ -23,6 +23,16 @@ can_adjacent N counterclockwise a b h = and_left (adjacent a b) _ h
 pub apart_never : (N : ℕ) (d : Direction) (a b : Circuit) → adjacent a b ≡ false → can_share N d a b ≡ false
 apart_never N clockwise a b h = rw h
 apart_never N counterclockwise a b h = rw h
+
+-- adjacent ones share by the total of their hops
+module _ (N : ℕ) (a b : Circuit) (d : Direction) where
+  pub share_clockwise : (r : Bool) (m n : ℕ) → d ≡ clockwise → r ≡ adjacent a b → r ≡ true → m ≡ hops N a → n ≡ hops N b
+      → leb (m + n) N ≡ can_share N d a b
+  share_clockwise r m n e f g h k = simp (e, ← f, g, ← h, ← k)
+
+  pub share_counterclockwise : (r : Bool) (m n : ℕ) → d ≡ counterclockwise → r ≡ adjacent a b → r ≡ true → m ≡ hops N a → n ≡ hops N b
+      → leb N (m + n) ≡ can_share N d a b
+  share_counterclockwise r m n e f g h k = simp (e, ← f, g, ← h, ← k)
 
 -- the order of a pair does not matter for adjacency
 adjacent_swap : (a b : Circuit) → adjacent a b ≡ adjacent b a

@@ -1,6 +1,6 @@
 -- Lightpaths counted at their ends: those of a place, then those of the wavelengths below a bound. Assumes nothing.
 use Prim.Native.Nat.{ℕ, zero, suc, ◌+◌, ◌*◌, ◌≤◌, ◌<◌}
-use mathlib.Core.Path.{◌≡◌, refl}
+use mathlib.Core.Path.{◌≡◌}
 use mathlib.Core.Bool.{true}
 use mathlib.Core.List.{List, [], ◌∷◌, ◌++◌, append_assoc, append-nil}
 use native.Mathlib.Numerals.{add-one}
@@ -20,6 +20,7 @@ use Rattle.lightpath.specs.declared.Circuit.{Circuit}
 use Rattle.lightpath.specs.declared.Direction.{Direction}
 use Rattle.lightpath.specs.declared.Direction.TheVariants.{Clockwise as clockwise, Counterclockwise as counterclockwise}
 use Rattle.slots.specs.Slot.{held}
+use Rattle.slots.proofs.Contents.{held_most}
 use Rattle.slots.specs.declared.Slot.{Slot}
 use Rattle.slots.specs.declared.Slot.TheVariants.{Unlit as unlit, Alone as alone, Shared as shared}
 use Rattle.channels.specs.Channels.{Channels, at}
@@ -54,9 +55,13 @@ pub record Reached (t : Channels) (d : Direction) (w : ℕ) (starts stops : List
 
 module _ (t : Channels) (d : Direction) where
   -- none is counted
-  pub reach_start : Reached t d 0 (replicate node_room 0) (replicate node_room 0) 0
+  pub reach_start : (starts stops : List ℕ) (last : ℕ) → starts ≡ replicate node_room 0 → stops ≡ replicate node_room 0 → last ≡ 0 → Reached t d 0 starts stops last
   unfolding lightpaths_below
-  reach_start = record { started = tallied_start (start_of d) node_room; stopped = tallied_start (stop_of d) node_room; over = refl }
+  reach_start starts stops last f g k = record {
+    started = rw f (tallied_start (start_of d) node_room);
+    stopped = rw g (tallied_start (stop_of d) node_room);
+    over = k;
+  }
 
   -- at most two a wavelength
   pub below_length : (w : ℕ) → length (lightpaths_below w t d) ≤ 2 * w
@@ -72,6 +77,10 @@ module _ (t : Channels) (d : Direction) where
   -- and at most as many over link N
   over_most : (cs : List Circuit) → over_last d cs ≤ length cs
   over_most cs = weigh_most _ (λ c. bit_most (ltb (stop_of d c) (start_of d c))) cs
+
+  -- two of a place
+  pub over_place : (s : Slot) → over_last d (held s) ≤ 2
+  over_place s = held_most _ (λ c. bit_most (ltb (stop_of d c) (start_of d c))) s
 
   module _ (w : ℕ) (starts stops : List ℕ) (last : ℕ) (h : Reached t d w starts stops last) where
     -- there is room for the next two

@@ -12,8 +12,8 @@ ghost use Rattle.load.specs.Walk.{running, Walks, pairs_to};
 ghost use Rattle.load.specs.Report.{report_of, report_reasons, buffer_after};
 
 use ends::EndCounts;
-use lightpath::Direction;
-use limits::PORT_FIELDS;
+use lightpath::{Direction, Wavelength};
+use limits::{MOST_WAVELENGTHS, PORT_FIELDS};
 use refusals::{Refusal, Verdict};
 use ring::RingTable;
 
@@ -49,8 +49,21 @@ pub fn report_valid(table: RingTable, out: &mut [u8]) -> Verdict
     if out.len() < 2 * usize::from(table.nodes) {
         return Err(Refusal::ShortBuffer);
     }
-    let clockwise = EndCounts::of(&table, Direction::Clockwise);
-    let counterclockwise = EndCounts::of(&table, Direction::Counterclockwise);
+    let mut clockwise = EndCounts::none();
+    let mut counterclockwise = EndCounts::none();
+    let mut last: u8 = 0;
+    let mut counter_last: u8 = 0;
+    for w in 0..MOST_WAVELENGTHS {
+        let wavelength = Wavelength(w);
+        last += clockwise.count_wavelength(&table, wavelength, Direction::Clockwise);
+        counter_last += counterclockwise.count_wavelength(
+            &table,
+            wavelength,
+            Direction::Counterclockwise,
+        );
+    }
+    clockwise.last = last;
+    counterclockwise.last = counter_last;
     walk(table.nodes, &clockwise, &counterclockwise, out);
     Ok(())
 }

@@ -65,9 +65,13 @@ fn arrivals_at(slot: Slot, node: u8) -> Slot
 fn arrivals(channels: [Channel; PLACE_COUNT], node: u8) -> [Channel; PLACE_COUNT]
     ensures { result ≡ arrivals_in node channels }
 {
-    channels.map(|channel| Channel {
-        slot: arrivals_at(channel.slot, node),
-    })
+    let mut left = channels;
+    for (place, channel) in channels.iter().enumerate() {
+        left[place] = Channel {
+            slot: arrivals_at(channel.slot, node),
+        };
+    }
+    left
 }
 
 // Answers `to NODE`: `to NODE circuits COUNT` and a line for each by rising number, or `to refused R` where the node is off the ring.

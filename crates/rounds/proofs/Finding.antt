@@ -23,7 +23,7 @@ use Rattle.tidying.specs.Round.{joinable}
 use Rattle.rounds.specs.Room.{Room, room_of, gains}
 use Rattle.rounds.specs.Search.{Hit, joinable_in, first_hit, Skipping}
 use Rattle.rounds.specs.Next.{PassedBy, Finds}
-use Rattle.rounds.proofs.Passing.{joinable_is, skipping, passed_by}
+use Rattle.rounds.proofs.Passing.{joinable_is, skipping, passed_hit}
 
 -- the room, by its two directions
 pub room_by : (m : ℕ) (t : Channels) (u v : ℕ) → u ≡ lowest_in is_unlit m t clockwise → v ≡ lowest_in is_unlit m t counterclockwise
@@ -66,7 +66,7 @@ module _ (N m : ℕ) (t : Channels) (room : Room) (e : room ≡ room_of m t) (lo
         found = hit_found (joinable N m t) pairs;
         first = λ x o. (hit_pair (joinable N m t) (standing_at t 0, standing_at t 0) pairs x o).0;
         second = λ x o. (hit_pair (joinable N m t) (standing_at t 0, standing_at t 0) pairs x o).1;
-        passed = λ x o. passed_by N m t room (omega arith) x (sym h ∙ is ∙ o);
+        passed = λ x o. passed_hit N m t room (omega arith) x (sym h ∙ is ∙ o);
       })
     where
       pairs : List (Standing × Standing)

@@ -9,7 +9,7 @@ use native.Mathlib.Omega.{arith}
 use lib.Dec.{leb, ltb}
 use lib.ListN.{length}
 use borrow.Author.Tests.{le-leb, ltb-false}
-use Rattle.std.specs.Prelude.{Some}
+use Rattle.std.specs.Prelude.{Option, Some, None}
 use Rattle.basis.specs.Choice.{pick}
 use Rattle.basis.specs.Count.{All}
 use Rattle.basis.specs.Search.{pairs_with, pairs_of}
@@ -108,6 +108,11 @@ rows_before f (a ∷ l) hit o k = go (row_hit f a l (pairs_of l)) (rows_before f
         rw is (all_join _ (pairs_with a l) (pairs_of l) (all_map _ _ (λ x e k. absurd (omega (arith, ap (λ s. s.place) e))) (pairs_with a l) (same l))
         (all_map _ _ (λ x e k. absurd (omega arith)) (pairs_of l) lower))
 
+-- the row of a pair that was found, the place of its first member; 0 where there is none
+abbrev pub row_of : Option Hit → ℕ
+row_of None = 0
+row_of (Some hit) = hit.first.place
+
 module _ (N m : ℕ) (t : Channels) where
   -- one that is alone stands
   stands_lone : (s : Standing) → Lone m t s → Stands m t s
@@ -128,10 +133,10 @@ module _ (N m : ℕ) (t : Channels) where
           (h.none pair.0 pair.1 (k.0.low, k.0.there) (k.1.low, k.1.there) k.2 (omega arith)))
           (pairs_of (nonsharing m t)) (pairs_stand m t within)
 
-  -- Law: no row before that of the pair that a round joins has a pair that can be joined
-  pub passed_by : (room : Room) → m ≤ length t → (hit : Hit) → first_hit (joinable_in N m room) (pairs_of (nonsharing m t)) ≡ Some hit
+  -- no row before that of a pair found first has a pair that can be joined
+  pub passed_hit : (room : Room) → m ≤ length t → (hit : Hit) → first_hit (joinable_in N m room) (pairs_of (nonsharing m t)) ≡ Some hit
       → PassedBy N m t room hit.first.place
-  passed_by room within hit is = record {
+  passed_hit room within hit is = record {
     none =
         λ a b la lb l k. stands_pairs m t within _ (rows_before (joinable_in N m room) (nonsharing m t) hit (nonsharing_ordered m t within) is) a b
         (stands_lone a la) (stands_lone b lb) l k;
@@ -140,6 +145,14 @@ module _ (N m : ℕ) (t : Channels) where
   -- before the first round nothing is passed by
   pub passed_none : (room : Room) → PassedBy N m t room 0
   passed_none room = record { none = λ a b la lb l k. absurd (omega arith) }
+
+  -- Law: no row before that of the pair that a round joins has a pair that can be joined
+  pub passed_by : (room : Room) → m ≤ length t → PassedBy N m t room (row_of (first_hit (joinable_in N m room) (pairs_of (nonsharing m t))))
+  passed_by room within = go (first_hit (joinable_in N m room) (pairs_of (nonsharing m t))) refl
+    where
+      go : (o : Option Hit) → first_hit (joinable_in N m room) (pairs_of (nonsharing m t)) ≡ o → PassedBy N m t room (row_of o)
+      go None e = passed_none room
+      go (Some hit) e = passed_hit room within hit e
 
 -- Law: a row that has none has none after a round
 pub passed_on : (N m : ℕ) (t t' : Channels) (room : Room) (from : ℕ) → m ≤ place_count → Settles t t' → PassedBy N m t room from → PassedBy N m t' room from

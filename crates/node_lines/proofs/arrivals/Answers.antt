@@ -1,10 +1,13 @@
--- `node_lines::arrivals` meets its contract. Assumes nothing.
+-- `node_lines::arrivals` meets its contract: the places below an index are copied. Assumes nothing.
 use borrow.Author.Rules.{rules}
-use borrow.Author.Tests.{tests}
-use Rattle.basis.proofs.Arrays.{array_length}
-use Rattle.node_lines.specs.Arrivals.{arrivals_at}
-use Rattle.node_lines.proofs.Copying.{mapped}
+use Rattle.node_lines.proofs.Copying.{copying}
 use Rattle.node_lines.proofs.arrivals.Goals as goal
 
+pub loop-place-init : goal.loop-place-init
+loop-place-init c = search (rules, copying)
+
+pub loop-place-preserved : goal.loop-place-preserved
+loop-place-preserved c = search (rules, copying)
+
 pub returns : goal.returns
-returns c = mapped _ _ (λ ch. record { slot = arrivals_at c.args.node ch.slot }) (λ x y q k. search (rules, tests)) _ _ _ (search (rules, array_length)) c.map.ensures.items
+returns c = search (rules, copying)
