@@ -9,6 +9,7 @@ use Rattle.basis.proofs.Bools.{and_left, and_right, and_both, same_test, fails}
 use Rattle.lightpath.specs.Place.{Direction, clockwise, counterclockwise}
 use Rattle.lightpath.specs.Circuit.{Circuit, hops, adjacent, can_share}
 use Rattle.lightpath.specs.BeforeE1.{can_share_before_e1}
+use Rattle.lightpath.proofs.Share.{can_adjacent}
 
 -- 02, E1: before it, a pair whose hops total N could not share counterclockwise
 pub before_one : (N : ℕ) (a b : Circuit) → hops N a + hops N b ≡ N → can_share_before_e1 N counterclockwise a b ≡ false
@@ -33,4 +34,4 @@ as_before N counterclockwise a b only = same_test _ _ strict (before_can N count
     strict : can_share N counterclockwise a b ≡ true → can_share_before_e1 N counterclockwise a b ≡ true
     strict h =
         let least : N ≤ hops N a + hops N b = leb-true _ _ (and_right (adjacent a b) _ h) in
-        and_both _ _ (and_left (adjacent a b) _ h) (lt-ltb N (hops N a + hops N b) (omega (arith, other)))
+        and_both _ _ (can_adjacent N counterclockwise a b h) (lt-ltb N (hops N a + hops N b) (omega (arith, other)))

@@ -1,6 +1,6 @@
 // The lightpaths of a direction counted at their ends: how many start at each node, how many stop there, and how many go over link N.
 
-ghost use Rattle.std.specs.Prelude.{◌≡◌, true, ◌+◌, ◌<◌, ltb, replicate};
+ghost use Rattle.std.specs.Prelude.{◌≡◌, true, ◌<◌, ltb, replicate};
 ghost use Rattle.basis.specs.Choice.{bit};
 ghost use Rattle.basis.specs.Count.{All};
 ghost use Rattle.limits.specs.Limits.{most_wavelengths};
@@ -19,7 +19,8 @@ use slots::Slot;
 // A count for each node; nodes are numbered from 1.
 const NODE_ROOM: usize = PORT_FIELDS + 1;
 
-// How many lightpaths start at each node of a walk clockwise round the ring, how many stop there, and how many go over link N.
+// How many lightpaths start at each node of a walk clockwise round the ring, how many stop there, and how many go over link N, which is set
+// when all are counted.
 #[derive(Clone, Copy)]
 pub struct EndCounts {
     pub starts: [u8; NODE_ROOM],
